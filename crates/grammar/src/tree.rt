@@ -1,0 +1,236 @@
+// The syntax tree of a listing: an arena of nodes. The nodes of a construct's parts stand before its own.
+ghost use mathlib.Core.Bool.{true};
+ghost use mathlib.Core.Path.{_≡_};
+ghost use Rattle.grammar.specs.Trees.{Falls};
+use machine::order::Gate;
+use std::alloc::AllocError;
+use std::alloc::Global;
+use std::alloc::Refused;
+
+// A name where it stands in the listing.
+#[derive(Clone, Copy)]
+pub struct Name {
+    pub place: usize,
+    pub span: usize,
+}
+
+// The entries of a table from `first` to `end`, `end` left out.
+#[derive(Clone, Copy)]
+pub struct Range {
+    pub first: usize,
+    pub end: usize,
+}
+
+#[derive(Clone, Copy)]
+pub enum Constant {
+    Unit,
+    Zero,
+    One,
+    Number(u32),
+}
+
+#[derive(Clone, Copy)]
+pub enum Basic {
+    Unit,
+    Bit,
+    Int,
+    Qbit,
+}
+
+// What is built of its parts.
+#[derive(Clone, Copy)]
+pub enum Form {
+    Tuple,
+    Meas,
+    Gate(Gate),
+    Call(Name),
+}
+
+#[derive(Clone, Copy)]
+pub enum Binder {
+    Let,
+    Mut,
+    Set,
+}
+
+#[derive(Clone, Copy)]
+pub enum Construct {
+    // no construct: what a look past the end gives
+    Missing,
+    // a written type; its parts are a range of the table of parts
+    BasicType(Basic),
+    TupleType(Range),
+    // a name of a pattern or a parameter; those of one construct stand side by side before it
+    Named(Name),
+    Constant(Constant),
+    Use(Name),
+    // the parts are a range of the table of parts, in reverse order
+    Built {
+        form: Form,
+        parts: Range,
+    },
+    // the names are a range of nodes
+    Bind {
+        binder: Binder,
+        names: Range,
+        right: usize,
+        body: usize,
+    },
+    Using {
+        names: Range,
+        body: usize,
+    },
+    If {
+        condition: usize,
+        yes: usize,
+        other: usize,
+    },
+}
+
+// A construct with the place of its first word.
+#[derive(Clone, Copy)]
+pub struct Node {
+    pub place: usize,
+    pub construct: Construct,
+}
+
+#[derive(Clone, Copy)]
+pub struct Parameter {
+    pub name: Name,
+    pub written: usize,
+}
+
+// The parameters are a range of the table of parameters, their names a range of nodes that follows the body.
+#[derive(Clone, Copy)]
+pub struct Operation {
+    pub place: usize,
+    pub name: Name,
+    pub parameters: Range,
+    pub names: Range,
+    pub result: usize,
+    pub body: usize,
+}
+
+// The node of the type qbit, and the range of parts that makes a pair of it.
+pub const QBIT: usize = 0;
+
+pub const PAIR_END: usize = 2;
+
+#[derive(Drop)]
+pub struct Tree {
+    pub(crate) nodes: Vec<Node>,
+    pub(crate) parts: Vec<usize>,
+    pub(crate) parameters: Vec<Parameter>,
+    pub(crate) operations: Vec<Operation>,
+    pub(crate) run: usize,
+    pub(crate) term: usize,
+}
+
+impl Tree {
+    // An empty tree with room for the listings of up to `words` words.
+    pub fn room(heap: Global, words: usize) -> Result<Tree, AllocError> {
+        let room = words.saturating_add(2);
+        let mut nodes = Vec::with_capacity(heap, room)?;
+        let mut parts = Vec::with_capacity(heap, room)?;
+        let parameters = Vec::with_capacity(heap, room)?;
+        let operations = Vec::with_capacity(heap, room)?;
+        nodes.push(Node {
+            place: 0,
+            construct: Construct::BasicType(Basic::Qbit),
+        })?;
+        parts.push(QBIT)?;
+        parts.push(QBIT)?;
+        Ok(Tree {
+            nodes,
+            parts,
+            parameters,
+            operations,
+            run: 0,
+            term: 0,
+        })
+    }
+
+    // How many nodes there are.
+    pub fn size(&self) -> usize {
+        self.nodes.len()
+    }
+
+    // The node at `at`, or no construct where there is none.
+    pub fn node(&self, at: usize) -> Node
+        ensures { λ r. ⌜ Falls at (r .construct) ⌝ }
+    {
+        if at < self.nodes.len() {
+            let node = self.nodes[at];
+            if falls(at, node.construct) {
+                return node;
+            }
+        }
+        Node {
+            place: 0,
+            construct: Construct::Missing,
+        }
+    }
+
+    // The part at `at` of the table of parts, or none.
+    pub fn part(&self, at: usize) -> Option<usize> {
+        self.parts.get(at).copied()
+    }
+
+    pub fn parameter(&self, at: usize) -> Option<Parameter> {
+        self.parameters.get(at).copied()
+    }
+
+    pub fn operation(&self, at: usize) -> Option<Operation> {
+        self.operations.get(at).copied()
+    }
+
+    pub fn operations(&self) -> &[Operation] {
+        self.operations.as_slice()
+    }
+
+    // The place of the word run.
+    pub fn run_place(&self) -> usize {
+        self.run
+    }
+
+    // The node of the term to run.
+    pub fn run_term(&self) -> usize {
+        self.term
+    }
+
+    // The table of parts.
+    pub fn into_parts(self) -> Vec<usize> {
+        self.parts
+    }
+
+    pub(crate) fn push(
+        &mut self,
+        place: usize,
+        construct: Construct,
+    ) -> Result<usize, Refused<Node>> {
+        let at = self.nodes.len();
+        self.nodes.push(Node { place, construct })?;
+        Ok(at)
+    }
+}
+
+// Do the parts that a construct names by their nodes stand before it?
+fn falls(at: usize, construct: Construct) -> bool
+    ensures { λ r. ⌜ (r ≡ true → Falls at construct) ⌝ }
+{
+    match construct {
+        Construct::Bind {
+            binder: _,
+            names: _,
+            right,
+            body,
+        } => right < at && body < at,
+        Construct::Using { names: _, body } => body < at,
+        Construct::If {
+            condition,
+            yes,
+            other,
+        } => condition < at && yes < at && other < at,
+        _ => true,
+    }
+}
