@@ -171,18 +171,22 @@ impl Tree {
         }
     }
 
-    // The part at `at` of the table of parts, or none.
-    pub fn part(&self, at: usize) -> Option<usize> {
-        self.parts.get(at).copied()
+    // The nodes.
+    pub fn nodes(&self) -> &[Node] {
+        self.nodes.as_slice()
     }
 
-    pub fn parameter(&self, at: usize) -> Option<Parameter> {
-        self.parameters.get(at).copied()
+    // The table of parts.
+    pub fn parts(&self) -> &[usize] {
+        self.parts.as_slice()
     }
 
-    pub fn operation(&self, at: usize) -> Option<Operation> {
-        self.operations.get(at).copied()
+    // The parameters of all operations.
+    pub fn parameters(&self) -> &[Parameter] {
+        self.parameters.as_slice()
     }
+
+    // The operations in the order of the listing.
 
     pub fn operations(&self) -> &[Operation] {
         self.operations.as_slice()

@@ -1,1 +1,4 @@
+pub mod lexer;
+pub mod reader;
+mod spelling;
 pub mod token;

@@ -1,5 +1,8 @@
 // The words of a listing: each is a part of the listing with its place.
+ghost use mathlib.Core.Path.{_≡_};
+ghost use Rattle.words.specs.declared.token.WordFault.the-variants.{Memory};
 use machine::order::Gate;
+use std::alloc::Refused;
 
 // The marks, and the reserved words that are no gate.
 #[derive(Clone, Copy, PartialEq, Eq)]
@@ -57,4 +60,12 @@ pub enum Word<'a> {
 pub enum WordFault {
     Bad { place: usize },
     Memory,
+}
+
+pub impl<T: Drop> From<Refused<T>> for WordFault as WordFaultFromRefused {
+    ghost converts = { λ _ r. r ≡ Memory };
+
+    fn from(_e: Refused<T>) -> WordFault {
+        WordFault::Memory
+    }
 }
