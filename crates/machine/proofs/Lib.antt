@@ -1,0 +1,3 @@
+pub mod Questions
+mod Rounds
+pub mod Tally

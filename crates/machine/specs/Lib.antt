@@ -1,2 +1,7 @@
+pub mod Boards
+pub mod Coins
+pub mod Gates
 pub mod Model
 pub mod Orders
+pub mod Promises
+pub mod Scripts

@@ -2,7 +2,7 @@
 use mathlib.Core.Path.{_≡_}
 use mathlib.Core.List.{List, [], _∷_}
 use mathlib.Core.Bool.{Bool, true, false, cond, _&&_, not}
-use Prim.Native.Nat.{ℕ, zero, suc, _+_, _%_, _^_, _≤_, _<_}
+use Prim.Native.Nat.{ℕ, zero, suc, _+_, _%_, _^_, _≤_, _<_, min, max}
 use lib.Dec.{eqb}
 use lib.ListN.{length}
 use Rattle.machine.specs.Orders.{width, handle-list}
@@ -10,7 +10,7 @@ use Rattle.machine.specs.declared.order.Gate.{Gate}
 use Rattle.machine.specs.declared.order.Order.{Order}
 use Rattle.machine.specs.declared.order.Order.the-variants.{Prepared, Applied, Measured}
 use Rattle.std.specs.declared.option.Option.{Option}
-use Rattle.std.specs.declared.option.Option.the-variants.{Some}
+use Rattle.std.specs.declared.option.Option.the-variants.{Some, None}
 
 -- the capacity, the live handles, the accepted orders counted modulo 2 ^ 32, the latest order
 pub record Model : Type 0 where
@@ -45,6 +45,17 @@ absent x (y ∷ ys) = not (eqb x y) && absent x ys
 abbrev pub distinct : List ℕ → Bool
 distinct [] = true
 distinct (x ∷ xs) = absent x xs && distinct xs
+
+-- the capacity that is taken where one is asked for: 1 for 0, and 64 for any above 64
+abbrev pub capacity-taken : ℕ → ℕ
+capacity-taken asked = min (max asked 1) 64
+
+-- a machine before its first order: no handle is live, nothing is counted, there is no latest order
+pub record Started (asked : ℕ) (m : Model) : Type 0 where
+  pub capacity : m .capacity ≡ capacity-taken asked
+  pub live : (k : ℕ) → m .live k ≡ false
+  pub count : m .count ≡ 0
+  pub latest : m .latest ≡ None
 
 -- an accepted order is counted and becomes the latest; the capacity stays
 pub record Accepted (m n : Model) (o : Order) : Type 0 where

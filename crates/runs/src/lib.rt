@@ -1,0 +1,3 @@
+pub mod run;
+pub mod state;
+pub mod value;
