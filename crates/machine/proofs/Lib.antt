@@ -1,3 +1,5 @@
+pub mod Accepts
+pub mod Acts
 pub mod Questions
 mod Rounds
 pub mod Tally

@@ -33,6 +33,10 @@ replies g hs live e =
     let y = all-yes _ _ _ e in
     (eqb-true _ _ (y .0), y .1, y .2)
 
+-- where each has the reply yes, none has the reply no
+pub none-asked : (g : Gate) (hs : List ℕ) (live : ℕ → Bool) → length hs ≡ width g → every live hs ≡ true → distinct hs ≡ true → gate-question g hs live ≡ None
+none-asked g hs live fits alive apart = simp (eq-eqb (length hs) (width g) fits, alive, apart)
+
 -- a list of one or two, by its elements
 pub one-item : (hs : List ℕ) → length hs ≡ 1 → getD hs 0 0 ∷ [] ≡ hs
 one-item [] e = absurd (omega arith)

@@ -5,7 +5,8 @@ use mathlib.Core.Logic.{⊎-elim}
 use Prim.Native.Nat.{ℕ, _+_, _-_, _%_, _≤_, _<_}
 use native.Mathlib.Nat.{mod-eq-of-lt, add-mod-right}
 use native.Mathlib.Omega.{arith}
-use Rattle.std.proofs.shelf.Tests.{cases-lt}
+use Rattle.std.proofs.shelf.Tests.{cases-lt, both-ways}
+use Rattle.machine.specs.Coins.{First-free}
 use Rattle.machine.specs.Model.{tally}
 use Rattle.machine.proofs.Tally.{tally-all, tally-mono}
 
@@ -37,3 +38,19 @@ goes-on f capacity start d most low room l all =
     ⊎-elim (λ (b : d + 1 < capacity). b)
     (λ (b : capacity ≤ d + 1). absurd (not-all-live f capacity start most low room (λ k h. all k (omega arith))))
     (cases-lt (d + 1) capacity)
+
+-- the first free handle is only one
+before : (capacity start h k : ℕ) (f : ℕ → Bool) (p : First-free capacity f start h) (q : First-free capacity f start k) → p .distance < q .distance → ⊥
+before capacity start h k f p q l =
+    both-ways (f h) (p .free) (ap f (p .place) ∙ q .passed (p .distance) l)
+
+pub one-first : (capacity start h k : ℕ) (f : ℕ → Bool) → First-free capacity f start h → First-free capacity f start k → h ≡ k
+one-first capacity start h k f p q =
+    ⊎-elim (λ (l : p .distance < q .distance). absurd (before capacity start h k f p q l))
+    (λ (l : q .distance ≤ p .distance).
+    ⊎-elim (λ (b : q .distance < p .distance). absurd (before capacity start k h f q p b))
+    (λ (b : p .distance ≤ q .distance).
+    let e : p .distance ≡ q .distance = omega arith in
+    p .place ∙ ap (λ d. (start + d) % capacity) e ∙ sym (q .place))
+    (cases-lt (q .distance) (p .distance)))
+    (cases-lt (p .distance) (q .distance))

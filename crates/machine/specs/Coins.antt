@@ -3,6 +3,7 @@ use mathlib.Core.Path.{_≡_}
 use mathlib.Core.Bool.{Bool, true, false}
 use Prim.Native.Nat.{ℕ, _+_, _*_, _%_, _<_}
 use lib.Dec.{leb}
+use Rattle.machine.specs.Model.{Model}
 use Rattle.std.specs.declared.option.Option.{Option}
 use Rattle.std.specs.declared.option.Option.the-variants.{Some, None}
 
@@ -26,3 +27,11 @@ pub record First-free (capacity : ℕ) (live : ℕ → Bool) (start h : ℕ) : T
   pub place : h ≡ (start + distance) % capacity
   pub free : live h ≡ false
   pub passed : (k : ℕ) → k < distance → live ((start + k) % capacity) ≡ true
+
+-- h is the handle that prepare gives: the first that is not live in the cyclic order after the last one given
+abbrev pub Next-handle : Model → Option ℕ → ℕ → Type 0
+Next-handle m last h = First-free (m .capacity) (m .live) (handle-after (m .capacity) last) h
+
+-- there is at most one such handle
+abbrev pub One-next-handle : Type 0
+One-next-handle = (m : Model) (last : Option ℕ) (h k : ℕ) → Next-handle m last h → Next-handle m last k → h ≡ k

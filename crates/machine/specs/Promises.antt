@@ -10,14 +10,14 @@ use Rattle.std.specs.declared.result.Result.{Result}
 use Rattle.std.specs.declared.result.Result.the-variants.{Ok, Err}
 
 -- P holds if the order was refused
-abbrev pub Refused : {A : Type 0} → Result A Refusal → Type 0 → Type 0
-Refused (Ok a) P = Unit {0}
-Refused (Err e) P = P
+abbrev pub If-refused : {A : Type 0} → Result A Refusal → Type 0 → Type 0
+If-refused (Ok a) P = Unit {0}
+If-refused (Err e) P = P
 
 -- P holds of the answer if the order was accepted
-abbrev pub Granted : {A : Type 0} → Result A Refusal → (A → Type 0) → Type 0
-Granted (Ok a) P = P a
-Granted (Err e) P = Unit {0}
+abbrev pub If-accepted : {A : Type 0} → Result A Refusal → (A → Type 0) → Type 0
+If-accepted (Ok a) P = P a
+If-accepted (Err e) P = Unit {0}
 
 -- as many handles are live as the capacity, or more
 pub record No-room (m : Model) (e : Refusal) : Type 0 where

@@ -2,10 +2,10 @@
 ghost use mathlib.Core.Path.{_≡_};
 ghost use Prim.Native.Nat.{_<_};
 ghost use Rattle.machine.specs.Boards.{seen};
-ghost use Rattle.machine.specs.Coins.{next-number, bit-of, handle-after, First-free};
+ghost use Rattle.machine.specs.Coins.{next-number, bit-of, handle-after, Next-handle, One-next-handle};
 ghost use Rattle.machine.specs.Gates.{Gate-answer};
 ghost use Rattle.machine.specs.Model.{Started, Clears};
-ghost use Rattle.machine.specs.Promises.{Prepare-answer, Measure-answer, Refused, Granted};
+ghost use Rattle.machine.specs.Promises.{Prepare-answer, Measure-answer, If-refused, If-accepted};
 ghost use Rattle.std.specs.declared.option.Option.the-variants.{Some, None};
 use crate::board::Board;
 use crate::machine::Machine;
@@ -19,11 +19,17 @@ pub struct Coin {
     board: Board,
 }
 
+const MULTIPLIER: u32 = 25173;
+
+const INCREMENT: u32 = 13849;
+// A number from here on gives the bit one.
+const HALF: u16 = 32768;
+
 // The number that follows s.
 fn next_number(s: u16) -> u16
     ensures { λ r. ⌜ r ≡ next-number s ⌝ }
 {
-    ((25173 * s as u32 + 13849) % 65536) as u16
+    ((MULTIPLIER * s as u32 + INCREMENT) % 65536) as u16
 }
 
 // The handle after the last one given: 0 after the greatest, and 0 where none was given.
@@ -35,6 +41,13 @@ fn handle_after(capacity: u8, last: Option<u8>) -> u8
         None => 0,
         Some(last) => ((last as u16 + 1) % capacity as u16) as u8,
     }
+}
+
+// The promise about the handle that prepare gives leaves no choice.
+pub fn next_handle_stands() -> u8
+    ensures { λ _. ⌜ One-next-handle ⌝ }
+{
+    0
 }
 
 impl Coin {
@@ -61,9 +74,9 @@ pub impl Machine for Coin as CoinMachine {
 
     fn prepare(&mut self) -> Result<u8, Refusal>
         ensures answer { λ r. ⌜ Prepare-answer (seen (now (self .entry) .board)) (seen (now (self .exit) .board)) r ⌝ }
-        ensures same { λ r. ⌜ Refused r (now (self .exit) ≡ now (self .entry)) ⌝ }
-        ensures handle { λ r. ⌜ Granted r (λ h. First-free (seen (now (self .entry) .board) .capacity) (seen (now (self .entry) .board) .live) (handle-after (seen (now (self .entry) .board) .capacity) (now (self .entry) .last)) h) ⌝ }
-        ensures last { λ r. ⌜ Granted r (λ h. now (self .exit) .last ≡ Some h) ⌝ }
+        ensures same { λ r. ⌜ If-refused r (now (self .exit) ≡ now (self .entry)) ⌝ }
+        ensures handle { λ r. ⌜ If-accepted r (λ h. Next-handle (seen (now (self .entry) .board)) (now (self .entry) .last) h) ⌝ }
+        ensures last { λ r. ⌜ If-accepted r (λ h. now (self .exit) .last ≡ Some h) ⌝ }
         ensures number { λ _. ⌜ now (self .exit) .s ≡ now (self .entry) .s ⌝ }
     {
         if self.board.is_full() {
@@ -78,16 +91,16 @@ pub impl Machine for Coin as CoinMachine {
 
     fn measure(&mut self, handle: u8) -> Result<bool, Refusal>
         ensures answer { λ r. ⌜ Measure-answer handle (seen (now (self .entry) .board)) (seen (now (self .exit) .board)) r ⌝ }
-        ensures same { λ r. ⌜ Refused r (now (self .exit) ≡ now (self .entry)) ⌝ }
-        ensures number { λ r. ⌜ Granted r (λ _. now (self .exit) .s ≡ next-number (now (self .entry) .s)) ⌝ }
-        ensures bit { λ r. ⌜ Granted r (λ b. b ≡ bit-of (next-number (now (self .entry) .s))) ⌝ }
+        ensures same { λ r. ⌜ If-refused r (now (self .exit) ≡ now (self .entry)) ⌝ }
+        ensures number { λ r. ⌜ If-accepted r (λ _. now (self .exit) .s ≡ next-number (now (self .entry) .s)) ⌝ }
+        ensures bit { λ r. ⌜ If-accepted r (λ b. b ≡ bit-of (next-number (now (self .entry) .s))) ⌝ }
         ensures last { λ _. ⌜ now (self .exit) .last ≡ now (self .entry) .last ⌝ }
     {
         if !self.board.is_live(handle) {
             return Err(Refusal::Dead);
         }
         self.s = next_number(self.s);
-        let bit = self.s >= 32768;
+        let bit = self.s >= HALF;
         self.board.measure(handle, bit);
         Ok(bit)
     }
@@ -102,7 +115,7 @@ pub impl Machine for Coin as CoinMachine {
 
     fn gate(&mut self, gate: Gate, handles: &[u8]) -> Result<(), Refusal>
         ensures answer { λ r. ⌜ Gate-answer gate (now (handles .entry)) (seen (now (self .entry) .board)) (seen (now (self .exit) .board)) r ⌝ }
-        ensures same { λ r. ⌜ Refused r (now (self .exit) ≡ now (self .entry)) ⌝ }
+        ensures same { λ r. ⌜ If-refused r (now (self .exit) ≡ now (self .entry)) ⌝ }
         ensures number { λ _. ⌜ now (self .exit) .s ≡ now (self .entry) .s ⌝ }
         ensures last { λ _. ⌜ now (self .exit) .last ≡ now (self .entry) .last ⌝ }
     {

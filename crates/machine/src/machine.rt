@@ -2,7 +2,7 @@
 ghost use mathlib.Core.Path.{_≡_};
 ghost use Rattle.machine.specs.Gates.{Gate-answer};
 ghost use Rattle.machine.specs.Model.{Model, Clears};
-ghost use Rattle.machine.specs.Promises.{Prepare-answer, Measure-answer, Refused};
+ghost use Rattle.machine.specs.Promises.{Prepare-answer, Measure-answer, If-refused};
 use crate::order::Gate;
 use crate::order::Refusal;
 
@@ -15,12 +15,12 @@ pub trait Machine {
     // Makes a handle live and answers it.
     fn prepare(&mut self) -> Result<u8, Refusal>
         ensures answer { λ r. ⌜ Prepare-answer (model (now (self .entry))) (model (now (self .exit))) r ⌝ }
-        ensures same { λ r. ⌜ Refused r (now (self .exit) ≡ now (self .entry)) ⌝ };
+        ensures same { λ r. ⌜ If-refused r (now (self .exit) ≡ now (self .entry)) ⌝ };
 
     // Measures the handle, which is live no more, and answers the bit.
     fn measure(&mut self, handle: u8) -> Result<bool, Refusal>
         ensures answer { λ r. ⌜ Measure-answer handle (model (now (self .entry))) (model (now (self .exit))) r ⌝ }
-        ensures same { λ r. ⌜ Refused r (now (self .exit) ≡ now (self .entry)) ⌝ };
+        ensures same { λ r. ⌜ If-refused r (now (self .exit) ≡ now (self .entry)) ⌝ };
 
     // Leaves no live handle.
     fn clear(&mut self)
@@ -29,5 +29,5 @@ pub trait Machine {
     // Applies the gate to the handles, in order.
     fn gate(&mut self, gate: Gate, handles: &[u8]) -> Result<(), Refusal>
         ensures answer { λ r. ⌜ Gate-answer gate (now (handles .entry)) (model (now (self .entry))) (model (now (self .exit))) r ⌝ }
-        ensures same { λ r. ⌜ Refused r (now (self .exit) ≡ now (self .entry)) ⌝ };
+        ensures same { λ r. ⌜ If-refused r (now (self .exit) ≡ now (self .entry)) ⌝ };
 }

@@ -5,7 +5,7 @@ ghost use lib.ListN.{length};
 ghost use Rattle.machine.specs.Boards.{seen};
 ghost use Rattle.machine.specs.Gates.{Gate-answer};
 ghost use Rattle.machine.specs.Model.{Started, Clears};
-ghost use Rattle.machine.specs.Promises.{Prepare-answer, Measure-answer, Refused, Granted};
+ghost use Rattle.machine.specs.Promises.{Prepare-answer, Measure-answer, If-refused, If-accepted};
 ghost use Rattle.machine.specs.Scripts.{bit-at, next-place};
 use crate::board::Board;
 use crate::machine::Machine;
@@ -59,7 +59,7 @@ pub impl Machine for Script<'_> as ScriptMachine {
 
     fn prepare(&mut self) -> Result<u8, Refusal>
         ensures answer { λ r. ⌜ Prepare-answer (seen (now (self .entry) .board)) (seen (now (self .exit) .board)) r ⌝ }
-        ensures same { λ r. ⌜ Refused r (now (self .exit) ≡ now (self .entry)) ⌝ }
+        ensures same { λ r. ⌜ If-refused r (now (self .exit) ≡ now (self .entry)) ⌝ }
         ensures bits { λ _. ⌜ now (self .exit) .bits ≡ now (self .entry) .bits ⌝ }
         ensures place { λ _. ⌜ now (self .exit) .next ≡ now (self .entry) .next ⌝ }
     {
@@ -73,10 +73,10 @@ pub impl Machine for Script<'_> as ScriptMachine {
 
     fn measure(&mut self, handle: u8) -> Result<bool, Refusal>
         ensures answer { λ r. ⌜ Measure-answer handle (seen (now (self .entry) .board)) (seen (now (self .exit) .board)) r ⌝ }
-        ensures same { λ r. ⌜ Refused r (now (self .exit) ≡ now (self .entry)) ⌝ }
-        ensures bit { λ r. ⌜ Granted r (λ b. b ≡ bit-at (now (self .entry) .bits .now) (now (self .entry) .next)) ⌝ }
+        ensures same { λ r. ⌜ If-refused r (now (self .exit) ≡ now (self .entry)) ⌝ }
+        ensures bit { λ r. ⌜ If-accepted r (λ b. b ≡ bit-at (now (self .entry) .bits .now) (now (self .entry) .next)) ⌝ }
         ensures bits { λ _. ⌜ now (self .exit) .bits ≡ now (self .entry) .bits ⌝ }
-        ensures place { λ r. ⌜ Granted r (λ _. now (self .exit) .next ≡ next-place (now (self .entry) .bits .now) (now (self .entry) .next)) ⌝ }
+        ensures place { λ r. ⌜ If-accepted r (λ _. now (self .exit) .next ≡ next-place (now (self .entry) .bits .now) (now (self .entry) .next)) ⌝ }
     {
         if !self.board.is_live(handle) {
             return Err(Refusal::Dead);
@@ -96,7 +96,7 @@ pub impl Machine for Script<'_> as ScriptMachine {
 
     fn gate(&mut self, gate: Gate, handles: &[u8]) -> Result<(), Refusal>
         ensures answer { λ r. ⌜ Gate-answer gate (now (handles .entry)) (seen (now (self .entry) .board)) (seen (now (self .exit) .board)) r ⌝ }
-        ensures same { λ r. ⌜ Refused r (now (self .exit) ≡ now (self .entry)) ⌝ }
+        ensures same { λ r. ⌜ If-refused r (now (self .exit) ≡ now (self .entry)) ⌝ }
         ensures bits { λ _. ⌜ now (self .exit) .bits ≡ now (self .entry) .bits ⌝ }
         ensures place { λ _. ⌜ now (self .exit) .next ≡ now (self .entry) .next ⌝ }
     {

@@ -1,7 +1,7 @@
 // The coin machine.
-use super::expect::applies;
-use super::expect::measures;
-use super::expect::prepares;
+use super::expect::accepted;
+use super::expect::answers;
+use super::expect::gives;
 use super::expect::refused;
 use machine::coin::Coin;
 use machine::coin::CoinMachine;
@@ -9,47 +9,35 @@ use machine::machine::Machine;
 use machine::order::Gate;
 use std::test::*;
 
-// From 0 the numbers are 13849, 48742, 31223, 17180, 13925 and 61346.
+// From 0 the numbers are 13849, 48742, 31223, 17180, 13925 and 61346; a clear and a refused order change none.
 #[test]
 fn answers_the_known_bits() -> Result<(), Fail> {
     let mut m = Coin::new(0, 1);
-    prepares(&mut m, 0)?;
-    measures(&mut m, 0, false)?;
-    refused(m.measure(0), 93)?;
-    prepares(&mut m, 0)?;
-    measures(&mut m, 0, true)?;
-    prepares(&mut m, 0)?;
-    measures(&mut m, 0, false)?;
+    answers(&mut m, &[false, true, false])?;
     m.clear();
-    prepares(&mut m, 0)?;
-    measures(&mut m, 0, false)?;
-    prepares(&mut m, 0)?;
-    measures(&mut m, 0, false)?;
-    prepares(&mut m, 0)?;
-    measures(&mut m, 0, true)
+    refused(m.measure(0), 93)?;
+    answers(&mut m, &[false, false, true])
 }
 
 // The next free handle after the last one given, 0 following the greatest.
 #[test]
 fn gives_the_next_handle() -> Result<(), Fail> {
     let mut m = Coin::new(0, 3);
-    prepares(&mut m, 0)?;
-    measures(&mut m, 0, false)?;
-    prepares(&mut m, 1)?;
-    prepares(&mut m, 2)?;
-    prepares(&mut m, 0)?;
+    gives(&mut m, &[0])?;
+    accepted(m.measure(0))?;
+    gives(&mut m, &[1, 2, 0])?;
     refused(m.prepare(), 91)?;
-    measures(&mut m, 0, true)?;
-    prepares(&mut m, 0)?;
+    accepted(m.measure(0))?;
+    gives(&mut m, &[0])?;
     m.clear();
-    prepares(&mut m, 1)
+    gives(&mut m, &[1])
 }
 
 #[test]
-fn refuses_gates() -> Result<(), Fail> {
+fn asks_the_questions_in_order() -> Result<(), Fail> {
     let mut m = Coin::new(0, 2);
-    prepares(&mut m, 0)?;
-    applies(&mut m, Gate::Z, &[0])?;
+    gives(&mut m, &[0])?;
+    accepted(m.gate(Gate::Z, &[0]))?;
     refused(m.gate(Gate::Swap, &[0]), 92)?;
     refused(m.gate(Gate::Swap, &[0, 1]), 93)?;
     refused(m.gate(Gate::Swap, &[0, 0]), 94)

@@ -1,6 +1,5 @@
 // Orders that a test expects to be accepted, or refused with a number.
 use machine::machine::Machine;
-use machine::order::Gate;
 use machine::order::Refusal;
 use std::test::*;
 
@@ -11,23 +10,26 @@ pub fn refused<T: Drop>(answer: Result<T, Refusal>, number: u8) -> Result<(), Fa
     }
 }
 
-pub fn prepares<M: Machine>(machine: &mut M, handle: u8) -> Result<(), Fail> {
-    match machine.prepare() {
-        Ok(given) => check_eq(given, handle),
-        Err(_) => Err(Fail::new("prepare refused")),
+pub fn accepted<T: Drop>(answer: Result<T, Refusal>) -> Result<T, Fail> {
+    match answer {
+        Ok(value) => Ok(value),
+        Err(_) => Err(Fail::new("refused")),
     }
 }
 
-pub fn measures<M: Machine>(machine: &mut M, handle: u8, bit: bool) -> Result<(), Fail> {
-    match machine.measure(handle) {
-        Ok(given) => check_eq(given, bit),
-        Err(_) => Err(Fail::new("measurement refused")),
+// One prepare for each handle gives it.
+pub fn gives<M: Machine>(machine: &mut M, handles: &[u8]) -> Result<(), Fail> {
+    for handle in handles {
+        check_eq(accepted(machine.prepare())?, *handle)?;
     }
+    Ok(())
 }
 
-pub fn applies<M: Machine>(machine: &mut M, gate: Gate, handles: &[u8]) -> Result<(), Fail> {
-    match machine.gate(gate, handles) {
-        Ok(()) => Ok(()),
-        Err(_) => Err(Fail::new("gate refused")),
+// For each bit, the measurement of a fresh handle answers it.
+pub fn answers<M: Machine>(machine: &mut M, bits: &[bool]) -> Result<(), Fail> {
+    for bit in bits {
+        let handle = accepted(machine.prepare())?;
+        check_eq(accepted(machine.measure(handle))?, *bit)?;
     }
+    Ok(())
 }

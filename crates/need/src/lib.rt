@@ -58,7 +58,9 @@ const STEP: Cost = Cost {
 impl Cost {
     // This, and then a further piece.
     fn then(self, piece: Cost) -> Cost {
-        let top = self.gain.saturating_add(piece.peak).saturating_sub(self.loss);
+        let top = self.gain
+            .saturating_add(piece.peak)
+            .saturating_sub(self.loss);
         let gain = self.gain.saturating_add(piece.gain);
         let loss = self.loss.saturating_add(piece.loss);
         let common = gain.min(loss);

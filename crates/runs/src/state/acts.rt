@@ -88,7 +88,12 @@ impl State {
         Ok(true)
     }
 
-    fn apply<M: Machine>(&mut self, base: usize, gate: Gate, machine: &mut M) -> Result<bool, Refusal> {
+    fn apply<M: Machine>(
+        &mut self,
+        base: usize,
+        gate: Gate,
+        machine: &mut M,
+    ) -> Result<bool, Refusal> {
         let whole = self.gathered(base);
         let Some(first) = whole.handle(0) else {
             return Ok(false);
@@ -130,7 +135,11 @@ impl State {
     }
 
     // A handle is prepared for each name, in order.
-    pub(super) fn prepare<M: Machine>(&mut self, names: Range, machine: &mut M) -> Result<(), Refusal> {
+    pub(super) fn prepare<M: Machine>(
+        &mut self,
+        names: Range,
+        machine: &mut M,
+    ) -> Result<(), Refusal> {
         for at in names.first..names.end {
             let handle = machine.prepare()?;
             self.set(at, Value::of(Leaf::Handle(handle)));

@@ -59,7 +59,11 @@ fn inner_of(program: &Program, at: usize) -> Option<Inner>
 
 impl State {
     // The next step. Answers whether there was one.
-    pub fn step<M: Machine>(&mut self, program: &Program, machine: &mut M) -> Result<bool, Refusal> {
+    pub fn step<M: Machine>(
+        &mut self,
+        program: &Program,
+        machine: &mut M,
+    ) -> Result<bool, Refusal> {
         match self.focus {
             Focus::Entering(at) => self.enter(program, at, machine),
             Focus::Finished(value) => match self.frames.pop() {
@@ -70,7 +74,12 @@ impl State {
     }
 
     // Goes down to the part that steps next.
-    fn enter<M: Machine>(&mut self, program: &Program, start: usize, machine: &mut M) -> Result<bool, Refusal> {
+    fn enter<M: Machine>(
+        &mut self,
+        program: &Program,
+        start: usize,
+        machine: &mut M,
+    ) -> Result<bool, Refusal> {
         let mut at = start;
         while let Some(inner) = inner_of(program, at) {
             if !self.wait(at, inner.part) {
@@ -82,7 +91,12 @@ impl State {
     }
 
     // A term with no part that runs before it.
-    fn leaf<M: Machine>(&mut self, program: &Program, at: usize, machine: &mut M) -> Result<bool, Refusal> {
+    fn leaf<M: Machine>(
+        &mut self,
+        program: &Program,
+        at: usize,
+        machine: &mut M,
+    ) -> Result<bool, Refusal> {
         match program.node(at) {
             Node::Constant(leaf) => {
                 self.focus = Focus::Finished(Value::of(leaf));
@@ -111,7 +125,14 @@ impl State {
         machine: &mut M,
     ) -> Result<bool, Refusal> {
         match program.node(frame.node) {
-            Node::Built { act, parts } => self.resume_built(program, frame, act, parts, value, machine),
+            Node::Built { act, parts } => self.resume_built(
+                program,
+                frame,
+                act,
+                parts,
+                value,
+                machine,
+            ),
             Node::Bind {
                 binder: _,
                 names,

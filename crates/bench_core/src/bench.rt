@@ -1,0 +1,173 @@
+// The bench: a machine, and a run if one is loaded.
+use crate::fault::BenchFault;
+use crate::fault::Fault;
+use crate::fault::FaultFromAlloc;
+use crate::fault::FaultFromBench;
+use crate::fault::FaultFromGrammar;
+use crate::fault::FaultFromMachine;
+use crate::fault::FaultFromNeed;
+use crate::fault::FaultFromRule;
+use crate::fault::FaultFromWord;
+use crate::report::report_text;
+use grammar::parse::parse;
+use grammar::tree::Tree;
+use machine::machine::Machine;
+use need::Costs;
+use need::Need;
+use need::need_of;
+use rules::checker::Checker;
+use rules::checker::check;
+use runs::run::Done;
+use runs::run::Run;
+use runs::state::State;
+use std::alloc::AllocError;
+use std::alloc::Global;
+use words::lexer::words;
+use words::token::Word;
+
+// The most bytes of a listing.
+const LONGEST: usize = 2048;
+
+// The most nodes of a tree: one for each word, and the type qbit.
+const MOST_NODES: usize = 2049;
+
+// All memory that a load asks for.
+#[derive(Drop)]
+struct Room<'a> {
+    words: Vec<Word<'a>>,
+    tree: Tree,
+    checker: Checker,
+    costs: Costs,
+    state: State,
+}
+
+impl<'a> Room<'a> {
+    fn new(heap: Global) -> Result<Room<'a>, AllocError> {
+        let words = Vec::with_capacity(heap, LONGEST)?;
+        let tree = Tree::room(heap, LONGEST)?;
+        let checker = Checker::room(heap, MOST_NODES)?;
+        let costs = Costs::room(heap, MOST_NODES)?;
+        let state = State::room(heap, MOST_NODES)?;
+        Ok(Room {
+            words,
+            tree,
+            checker,
+            costs,
+            state,
+        })
+    }
+}
+
+// Reads and checks a listing for a machine of this capacity.
+fn examine<'a>(listing: &'a [u8], room: Room<'a>, capacity: u8) -> Result<Run, Fault> {
+    let Room {
+        words: mut found,
+        mut tree,
+        checker,
+        costs,
+        state,
+    } = room;
+    words(listing, &mut found)?;
+    parse(found.as_slice(), listing.len(), &mut tree)?;
+    let program = check(listing, tree, checker)?;
+    let need = need_of(&program, capacity, costs)?;
+    Ok(Run::start(program, need, state))
+}
+
+#[derive(Drop)]
+pub struct Bench<M: Machine + Drop> {
+    machine: M,
+    run: Option<Run>,
+}
+
+impl<M: Machine + Drop> Bench<M> {
+    // Takes a machine and clears it.
+    pub fn open(mut machine: M) -> Bench<M> {
+        machine.clear();
+        Bench { machine, run: None }
+    }
+
+    // Reads and checks a listing, and begins its run; answers its need.
+    pub fn load(&mut self, heap: Global, listing: &[u8]) -> Result<Need, Fault> {
+        if self.run.is_some() {
+            return Err(Fault::Bench(BenchFault::Loaded));
+        }
+        if listing.len() > LONGEST {
+            return Err(Fault::Bench(BenchFault::TooLong));
+        }
+        let room = Room::new(heap)?;
+        let run = examine(listing, room, self.machine.capacity())?;
+        let need = run.need();
+        self.run = Some(run);
+        Ok(need)
+    }
+
+    // Takes `count` steps of the run, or all that remain.
+    pub fn advance(&mut self, count: u32) -> Result<Done, Fault> {
+        match &mut self.run {
+            None => Err(Fault::Bench(BenchFault::Unloaded)),
+            Some(run) => {
+                if run.has_ended() {
+                    return Err(Fault::Bench(BenchFault::Ended));
+                }
+                let done = run.advance(&mut self.machine, count)?;
+                Ok(done)
+            }
+        }
+    }
+
+    // Ends any run, clears the machine and empties the bench.
+    pub fn clear(&mut self) {
+        self.machine.clear();
+        self.run = None;
+    }
+
+    // Writes the report of an ended run from the buffer's front; answers its length.
+    pub fn report(&self, buffer: &mut [u8]) -> Result<usize, Fault> {
+        let Some(run) = &self.run else {
+            return Err(Fault::Bench(BenchFault::Unloaded));
+        };
+        let Some(value) = run.result() else {
+            return Err(Fault::Bench(BenchFault::Running));
+        };
+        let mut nothing = [0u8; 0];
+        let length = report_text(&mut nothing, run, &value);
+        if length > buffer.len() {
+            return Err(Fault::Bench(BenchFault::Short));
+        }
+        Ok(report_text(buffer, run, &value))
+    }
+
+    pub fn machine(&self) -> &M {
+        &self.machine
+    }
+
+    // Is nothing loaded?
+    pub fn is_empty(&self) -> bool {
+        self.run.is_none()
+    }
+
+    // The need of the listing that is loaded.
+    pub fn need(&self) -> Option<Need> {
+        match &self.run {
+            None => None,
+            Some(run) => Some(run.need()),
+        }
+    }
+
+    // The steps that the run has taken.
+    pub fn taken(&self) -> Option<u32> {
+        match &self.run {
+            None => None,
+            Some(run) => Some(run.taken()),
+        }
+    }
+
+    // Is a run loaded that has ended?
+    pub fn has_ended(&self) -> bool {
+        match &self.run {
+            None => false,
+            Some(run) => run.has_ended(),
+        }
+    }
+}

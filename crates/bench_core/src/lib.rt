@@ -1,0 +1,5 @@
+pub mod bench;
+pub mod fault;
+pub mod report;
+pub mod session;
+pub mod text;
