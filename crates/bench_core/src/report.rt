@@ -10,6 +10,7 @@ use rules::program::Leaf;
 use rules::program::Program;
 use rules::types::Type;
 use runs::run::Run;
+use runs::value::Item;
 use runs::value::Value;
 
 // The type of a node, one with at most `left` leaves.
@@ -62,49 +63,28 @@ fn leaf_text(buffer: &mut [u8], at: usize, leaf: Leaf) -> usize {
     }
 }
 
-// The leaves of a value from `from` on, grouped as the type of a node with at most `left` leaves.
-fn value_text(
-    buffer: &mut [u8],
-    at: usize,
-    program: &Program,
-    node: usize,
-    value: &Value,
-    from: usize,
-    left: usize,
-) -> usize {
-    match program.typed(node).shape {
-        Type::Tuple(parts) => {
+// The part of a value that begins at `from`.
+fn value_text(buffer: &mut [u8], at: usize, value: &Value, from: usize) -> usize {
+    match value.item(from) {
+        Item::Leaf(leaf) => leaf_text(buffer, at, leaf),
+        Item::Tuple(count) => {
             let at = put(buffer, at, b'(');
-            let at = value_parts(buffer, at, program, parts, value, from, left);
+            let at = parts_text(buffer, at, value, from + 1, count);
             put(buffer, at, b')')
         }
-        _ => leaf_text(buffer, at, value.leaf(from)),
     }
 }
 
-fn value_parts(
-    buffer: &mut [u8],
-    start: usize,
-    program: &Program,
-    parts: Range,
-    value: &Value,
-    first: usize,
-    left: usize,
-) -> usize {
+// So many parts of a value, of which the first begins at `first`.
+fn parts_text(buffer: &mut [u8], start: usize, value: &Value, first: usize, count: usize) -> usize {
     let mut at = start;
     let mut from = first;
-    let mut part = parts.end;
-    while parts.first < part {
-        if part < parts.end {
+    for part in 0..count {
+        if part > 0 {
             at = put_all(buffer, at, b", ");
         }
-        part -= 1;
-        let node = program.part(part);
-        let leaves = program.typed(node).leaves;
-        if leaves < left {
-            at = value_text(buffer, at, program, node, value, from, leaves);
-        }
-        from = from.saturating_add(leaves);
+        at = value_text(buffer, at, value, from);
+        from = value.end(from);
     }
     at
 }
@@ -124,7 +104,7 @@ pub(crate) fn report_text(buffer: &mut [u8], run: &Run, value: &Value) -> usize 
     let at = put_all(buffer, at, b"\ntaken ");
     let at = decimal(buffer, at, u64::from(run.taken()));
     let at = put_all(buffer, at, b"\nresult ");
-    let at = value_text(buffer, at, program, node, value, 0, leaves);
+    let at = value_text(buffer, at, value, 0);
     put(buffer, at, 10)
 }
 

@@ -142,7 +142,7 @@ impl Costs {
 
     fn node_cost(&self, program: &Program, at: usize) -> Cost {
         match program.node(at) {
-            Node::Place { width: _ } => FREE,
+            Node::Place => FREE,
             Node::Target(_) => FREE,
             Node::Constant(_) => STEP,
             Node::Use(_) => STEP,

@@ -5,7 +5,7 @@ use Rattle.rules.specs.declared.program.Node.the-variants.{Place, Target, Cons
 
 -- the terms that a node names by their nodes stand before it
 abbrev pub Falls : ℕ → Node → Type 0
-Falls at (Place w) = Unit {0}
+Falls at Place = Unit {0}
 Falls at (Target x) = Unit {0}
 Falls at (Constant l) = Unit {0}
 Falls at (Use x) = Unit {0}

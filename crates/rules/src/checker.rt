@@ -41,8 +41,9 @@ pub impl Named for Binding as BindingNamed {
 
 #[derive(Drop)]
 pub struct Checker {
-    // the program, and the type of each node
+    // the program, and the place and type of each node
     nodes: Vec<Node>,
+    places: Vec<usize>,
     types: Vec<Typed>,
     roots: Vec<Root>,
     // the names in scope, the innermost last
@@ -59,12 +60,14 @@ impl Checker {
     // A checker with room for a tree of up to `size` nodes.
     pub fn room(heap: Global, size: usize) -> Result<Checker, AllocError> {
         let nodes = Vec::with_capacity(heap, size)?;
+        let places = Vec::with_capacity(heap, size)?;
         let types = Vec::with_capacity(heap, size)?;
         let roots = Vec::with_capacity(heap, size)?;
         let scope = Vec::with_capacity(heap, size)?;
         let trail = Vec::with_capacity(heap, size)?;
         Ok(Checker {
             nodes,
+            places,
             types,
             roots,
             scope,

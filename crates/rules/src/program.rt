@@ -29,10 +29,8 @@ pub enum Act {
 
 #[derive(Clone, Copy)]
 pub enum Node {
-    // no term: a type, or a name that is bound here and whose entry this is, with the leaves of its type
-    Place {
-        width: usize,
-    },
+    // no term: a type, or a name that is bound here and whose entry this is
+    Place,
     // a name that a set alters: its entry
     Target(usize),
     Constant(Leaf),
@@ -70,10 +68,12 @@ pub struct Root {
 pub struct Program {
     pub(crate) nodes: Vec<Node>,
     pub(crate) parts: Vec<usize>,
+    // the place of the first word of each node
+    pub(crate) places: Vec<usize>,
     pub(crate) types: Vec<Typed>,
     pub(crate) roots: Vec<Root>,
     pub(crate) run: usize,
-    pub(crate) place: usize,
+    pub(crate) run_place: usize,
 }
 
 impl Program {
@@ -92,12 +92,17 @@ impl Program {
                 return node;
             }
         }
-        Node::Place { width: 0 }
+        Node::Place
     }
 
     // The table of parts at `at`.
     pub fn part(&self, at: usize) -> usize {
         part_at(self.parts.as_slice(), at)
+    }
+
+    // The place of the first word of the node at `at`.
+    pub fn place(&self, at: usize) -> usize {
+        part_at(self.places.as_slice(), at)
     }
 
     // The type of the node at `at`.
@@ -123,7 +128,7 @@ impl Program {
 
     // The place of the word run.
     pub fn run_place(&self) -> usize {
-        self.place
+        self.run_place
     }
 }
 

@@ -1,85 +1,113 @@
-// Values of a run: at most 8 leaves, kept in place.
+// Values of a run, kept in place: a leaf, or a tuple followed by its parts.
 ghost use mathlib.Core.Path.{_≡_};
-ghost use Prim.Native.Nat.{_≤_};
+ghost use Prim.Native.Nat.{_<_, _≤_};
 ghost use lib.ListN.{length};
+ghost use Rattle.runs.specs.Items.{Inner};
 use rules::program::Leaf;
-use rules::types::LEAVES;
+
+// At most 8 leaves, and a tuple has two parts or more: at most 7 tuples.
+pub const ITEMS: usize = 15;
+
+#[derive(Clone, Copy)]
+pub enum Item {
+    Leaf(Leaf),
+    // a tuple of so many parts, which follow
+    Tuple(usize),
+}
 
 #[derive(Clone, Copy)]
 pub struct Value {
-    leaves: [Leaf; LEAVES],
+    items: [Item; ITEMS],
     count: usize,
-    ghost few: { count ≤ 8 },
-    ghost long: { length leaves ≡ 8 },
+    ghost few: { count ≤ 15 },
+    ghost long: { length items ≡ 15 },
 }
 
 impl Value {
-    // A value with no leaf yet.
+    // A value with no item yet.
     pub fn empty() -> Value {
         Value {
-            leaves: [Leaf::Unit; LEAVES],
+            items: [Item::Leaf(Leaf::Unit); ITEMS],
             count: 0,
         }
     }
 
     pub fn of(leaf: Leaf) -> Value {
         let mut value = Value::empty();
-        value.push(leaf);
+        value.push(Item::Leaf(leaf));
         value
     }
 
-    // How many leaves there are.
-    pub fn width(&self) -> usize {
-        self.count
-    }
-
-    // The leaf at `at`, or unit where there is none.
-    pub fn leaf(&self, at: usize) -> Leaf {
+    // The item at `at`, or the leaf unit where there is none.
+    pub fn item(&self, at: usize) -> Item
+        ensures { λ r. ⌜ Inner at (now (self .entry) .count) r ⌝ }
+    {
         if at < self.count {
-            self.leaves[at]
+            self.items[at]
         } else {
-            Leaf::Unit
+            Item::Leaf(Leaf::Unit)
         }
     }
 
-    // One more leaf, where there is room.
-    pub fn push(&mut self, leaf: Leaf) {
-        if self.count < LEAVES {
-            self.leaves[self.count] = leaf;
+    // One more item, where there is room.
+    pub fn push(&mut self, item: Item) {
+        if self.count < ITEMS {
+            self.items[self.count] = item;
             self.count += 1;
         }
     }
 
-    // The leaves of another value follow.
+    // The items of another value follow.
     pub fn append(&mut self, other: &Value) {
         for at in 0..other.count {
-            self.push(other.leaf(at));
+            self.push(other.item(at));
         }
     }
 
-    // The `width` leaves from `first` on.
-    pub fn part(&self, first: usize, width: usize) -> Value {
+    // Where the part that begins at `at` ends.
+    pub fn end(&self, at: usize) -> usize
+        ensures { λ r. ⌜ at ≤ r ⌝ }
+    {
+        let mut end = at;
+        let mut left = 1usize;
+        while left > 0 && end < self.count {
+            if let Item::Tuple(parts) = self.item(end) {
+                left = left.saturating_add(parts);
+            }
+            left -= 1;
+            end += 1;
+        }
+        end
+    }
+
+    // The items from `first` on, before `end`.
+    pub fn part(&self, first: usize, end: usize) -> Value {
         let mut part = Value::empty();
-        let end = first.saturating_add(width).min(self.count);
-        for at in first..end {
-            part.push(self.leaf(at));
+        for at in first..end.min(self.count) {
+            part.push(self.item(at));
         }
         part
     }
 
-    // The handle of the leaf at `at`.
-    pub fn handle(&self, at: usize) -> Option<u8> {
-        match self.leaf(at) {
-            Leaf::Handle(handle) => Some(handle),
-            _ => None,
+    // The handle that the value is.
+    pub fn handle(&self) -> Option<u8> {
+        match self.item(0) {
+            Item::Leaf(leaf) => match leaf {
+                Leaf::Handle(handle) => Some(handle),
+                _ => None,
+            },
+            Item::Tuple(_) => None,
         }
     }
 
-    // Is the first leaf the bit one?
+    // Is the value the bit one?
     pub fn is_one(&self) -> bool {
-        match self.leaf(0) {
-            Leaf::Bit(bit) => bit,
-            _ => false,
+        match self.item(0) {
+            Item::Leaf(leaf) => match leaf {
+                Leaf::Bit(bit) => bit,
+                _ => false,
+            },
+            Item::Tuple(_) => false,
         }
     }
 }

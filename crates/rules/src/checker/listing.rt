@@ -49,9 +49,10 @@ fn is_declared(tree: &Tree, text: &[u8], end: usize, name: Name) -> bool {
 
 impl Checker {
     // An entry for each node.
-    fn fill(&mut self, size: usize) -> Result<(), RuleFault> {
-        for _ in 0..size {
-            self.nodes.push(Node::Place { width: 0 })?;
+    fn fill(&mut self, tree: &Tree) -> Result<(), RuleFault> {
+        for at in 0..tree.size() {
+            self.nodes.push(Node::Place)?;
+            self.places.push(tree.node(at).place)?;
             self.types.push(UNIT)?;
         }
         Ok(())
@@ -123,7 +124,7 @@ impl Checker {
     }
 
     fn listing(&mut self, text: &[u8], tree: &Tree) -> Result<(), RuleFault> {
-        self.fill(tree.size())?;
+        self.fill(tree)?;
         self.written(tree, QBIT)?;
         let count = tree.operations().len();
         for at in 0..count {
@@ -141,6 +142,7 @@ pub fn check(text: &[u8], tree: Tree, mut checker: Checker) -> Result<Program, R
     checker.listing(text, &tree)?;
     let Checker {
         nodes,
+        places,
         types,
         roots,
         scope: _,
@@ -149,14 +151,15 @@ pub fn check(text: &[u8], tree: Tree, mut checker: Checker) -> Result<Program, R
         above: _,
     } = checker;
     let run = tree.run_term();
-    let place = tree.run_place();
+    let run_place = tree.run_place();
     let parts = tree.into_parts();
     Ok(Program {
         nodes,
         parts,
+        places,
         types,
         roots,
         run,
-        place,
+        run_place,
     })
 }

@@ -119,8 +119,7 @@ impl Checker {
         typed: Typed,
         settable: bool,
     ) -> Result<(), RuleFault> {
-        let width = typed.leaves;
-        self.put(entry, Node::Place { width }, typed);
+        self.put(entry, Node::Place, typed);
         self.scope
             .push(Binding {
                 name,

@@ -58,7 +58,7 @@ impl Checker {
     pub(super) fn written(&mut self, tree: &Tree, at: usize) -> Result<(), RuleFault> {
         let node = tree.node(at);
         match node.construct {
-            Construct::BasicType(b) => self.put(at, Node::Place { width: 1 }, basic(b)),
+            Construct::BasicType(b) => self.put(at, Node::Place, basic(b)),
             Construct::TupleType(parts) => {
                 let mut part = parts.end;
                 while parts.first < part {
@@ -69,8 +69,7 @@ impl Checker {
                     }
                 }
                 let typed = self.tuple_of(tree, parts, node.place)?;
-                let width = typed.leaves;
-                self.put(at, Node::Place { width }, typed);
+                self.put(at, Node::Place, typed);
             }
             _ => {}
         }

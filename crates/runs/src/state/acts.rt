@@ -1,6 +1,7 @@
 // What a step does with finished parts.
 use super::Focus;
 use super::State;
+use crate::value::Item;
 use crate::value::Value;
 use grammar::tree::Range;
 use machine::machine::Machine;
@@ -23,14 +24,6 @@ fn entry_of(program: &Program, at: usize) -> usize {
     }
 }
 
-// The leaves of the type of an entry.
-fn width_of(program: &Program, at: usize) -> usize {
-    match program.node(at) {
-        Node::Place { width } => width,
-        _ => 0,
-    }
-}
-
 impl State {
     fn value_at(&self, at: usize) -> Value {
         if at < self.values.len() {
@@ -40,9 +33,10 @@ impl State {
         }
     }
 
-    // The latest finished parts, their leaves side by side.
+    // The tuple of the latest finished parts.
     fn gathered(&self, base: usize) -> Value {
         let mut whole = Value::empty();
+        whole.push(Item::Tuple(self.values.len().saturating_sub(base)));
         for at in base..self.values.len() {
             whole.append(&self.value_at(at));
         }
@@ -80,7 +74,7 @@ impl State {
     }
 
     fn measure<M: Machine>(&mut self, base: usize, machine: &mut M) -> Result<bool, Refusal> {
-        let Some(handle) = self.value_at(base).handle(0) else {
+        let Some(handle) = self.value_at(base).handle() else {
             return Ok(false);
         };
         let bit = machine.measure(handle)?;
@@ -94,15 +88,21 @@ impl State {
         gate: Gate,
         machine: &mut M,
     ) -> Result<bool, Refusal> {
-        let whole = self.gathered(base);
-        let Some(first) = whole.handle(0) else {
+        let value = self.value_at(base);
+        let Some(first) = value.handle() else {
             return Ok(false);
         };
-        match whole.handle(1) {
-            None => machine.gate(gate, &[first])?,
-            Some(second) => machine.gate(gate, &[first, second])?,
+        if gate.width() == 1 {
+            machine.gate(gate, &[first])?;
+            self.finish(base, value);
+            return Ok(true);
         }
-        self.finish(base, whole);
+        let Some(second) = self.value_at(base.saturating_add(1)).handle() else {
+            return Ok(false);
+        };
+        machine.gate(gate, &[first, second])?;
+        let pair = self.gathered(base);
+        self.finish(base, pair);
         Ok(true)
     }
 
@@ -125,12 +125,11 @@ impl State {
             self.set(entry_of(program, names.first), value);
             return;
         }
-        let mut first = 0usize;
+        let mut first = 1usize;
         for at in names.first..names.end {
-            let entry = entry_of(program, at);
-            let width = width_of(program, entry);
-            self.set(entry, value.part(first, width));
-            first = first.saturating_add(width);
+            let end = value.end(first);
+            self.set(entry_of(program, at), value.part(first, end));
+            first = end;
         }
     }
 
