@@ -1,13 +1,13 @@
 // The bench: a machine, and a run if one is loaded.
-use crate::fault::BenchFault;
-use crate::fault::Fault;
-use crate::fault::FaultFromAlloc;
-use crate::fault::FaultFromBench;
-use crate::fault::FaultFromGrammar;
-use crate::fault::FaultFromMachine;
-use crate::fault::FaultFromNeed;
-use crate::fault::FaultFromRule;
-use crate::fault::FaultFromWord;
+use faults::fault::BenchFault;
+use faults::fault::Fault;
+use faults::fault::FaultFromAlloc;
+use faults::fault::FaultFromBench;
+use faults::fault::FaultFromGrammar;
+use faults::fault::FaultFromMachine;
+use faults::fault::FaultFromNeed;
+use faults::fault::FaultFromRule;
+use faults::fault::FaultFromWord;
 use crate::report::report_text;
 use grammar::parse::parse;
 use grammar::tree::Tree;

@@ -1,7 +1,7 @@
 // The texts: the report of an ended run, and the line of a refusal.
 ghost use Prim.Native.Nat.{_≤_};
-use crate::fault::Diagnosis;
-use crate::fault::Layer;
+use faults::fault::Diagnosis;
+use faults::fault::Layer;
 use crate::text::decimal;
 use crate::text::put;
 use crate::text::put_all;

@@ -2,8 +2,8 @@
 ghost use Prim.Native.Nat.{_≤_};
 ghost use lib.ListN.{length};
 use crate::bench::Bench;
-use crate::fault::Fault;
-use crate::fault::FaultFromAlloc;
+use faults::fault::Fault;
+use faults::fault::FaultFromAlloc;
 use crate::report::refused_line;
 use machine::script::Script;
 use machine::script::ScriptMachine;

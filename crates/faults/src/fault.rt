@@ -1,14 +1,13 @@
 // Why a call is refused: the part that found it, its number and its place.
 ghost use mathlib.Core.Path.{_≡_};
-ghost use Rattle.bench_core.specs.Faults.{from-bench, from-word, from-grammar, from-rule, from-need, bench-diagnosis, rule-diagnosis, diagnosis};
-ghost use Rattle.bench_core.specs.declared.fault.Fault.the-variants.{Memory, Machine};
+ghost use Rattle.faults.specs.Faults.{from-bench, from-word, from-grammar, from-rule, from-need, bench-diagnosis, rule-diagnosis, diagnosis};
+ghost use Rattle.faults.specs.declared.fault.Fault.the-variants.{Memory, Machine};
 ghost use Rattle.std.specs.declared.option.Option.the-variants.{Some};
 use grammar::parse::GrammarFault;
 use machine::order::Refusal;
 use need::NeedFault;
 use rules::fault::RuleFault;
 use std::alloc::AllocError;
-use std::alloc::Refused;
 use words::token::WordFault;
 
 #[derive(Clone, Copy)]

@@ -11,13 +11,13 @@ use Rattle.rules.specs.declared.fault.RuleFault.{RuleFault}
 use Rattle.rules.specs.declared.fault.RuleFault.the-variants as rule
 use Rattle.words.specs.declared.token.WordFault.{WordFault}
 use Rattle.words.specs.declared.token.WordFault.the-variants as word
-use Rattle.bench_core.specs.declared.fault.BenchFault.{BenchFault}
-use Rattle.bench_core.specs.declared.fault.BenchFault.the-variants.{Loaded, TooLong, Unloaded, Ended, Running, Short}
-use Rattle.bench_core.specs.declared.fault.Fault.{Fault}
-use Rattle.bench_core.specs.declared.fault.Fault.the-variants as fault
-use Rattle.bench_core.specs.declared.fault.Layer.{Layer}
-use Rattle.bench_core.specs.declared.fault.Layer.the-variants as layer
-use Rattle.bench_core.specs.declared.fault.Diagnosis.{Diagnosis}
+use Rattle.faults.specs.declared.fault.BenchFault.{BenchFault}
+use Rattle.faults.specs.declared.fault.BenchFault.the-variants.{Loaded, TooLong, Unloaded, Ended, Running, Short}
+use Rattle.faults.specs.declared.fault.Fault.{Fault}
+use Rattle.faults.specs.declared.fault.Fault.the-variants as fault
+use Rattle.faults.specs.declared.fault.Layer.{Layer}
+use Rattle.faults.specs.declared.fault.Layer.the-variants as layer
+use Rattle.faults.specs.declared.fault.Diagnosis.{Diagnosis}
 
 abbrev pub from-bench : BenchFault → Fault
 from-bench e = fault.Bench e
