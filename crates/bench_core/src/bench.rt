@@ -1,4 +1,6 @@
 // The bench: a machine, and a run if one is loaded.
+ghost use Rattle.bench_core.specs.Buffers.{Copied, Fronted};
+use crate::report::report_text;
 use faults::fault::BenchFault;
 use faults::fault::Fault;
 use faults::fault::FaultFromAlloc;
@@ -8,7 +10,6 @@ use faults::fault::FaultFromMachine;
 use faults::fault::FaultFromNeed;
 use faults::fault::FaultFromRule;
 use faults::fault::FaultFromWord;
-use crate::report::report_text;
 use grammar::parse::parse;
 use grammar::tree::Tree;
 use machine::machine::Machine;
@@ -74,6 +75,17 @@ fn examine<'a>(listing: &'a [u8], room: Room<'a>, capacity: u8) -> Result<Run, F
     Ok(Run::start(program, need, state))
 }
 
+// Copies a text to the buffer's front, where it suffices; answers the text's length.
+fn copy_to_front(buffer: &mut [u8], text: &[u8]) -> Result<usize, Fault>
+    ensures { λ r. ⌜ Copied (now (text .entry)) (now (buffer .entry)) (now (buffer .exit)) r ⌝ }
+{
+    if text.len() > buffer.len() {
+        return Err(Fault::Bench(BenchFault::Short));
+    }
+    buffer[..text.len()].copy_from_slice(text);
+    Ok(text.len())
+}
+
 #[derive(Drop)]
 pub struct Bench<M: Machine + Drop> {
     machine: M,
@@ -123,19 +135,17 @@ impl<M: Machine + Drop> Bench<M> {
     }
 
     // Writes the report of an ended run from the buffer's front; answers its length.
-    pub fn report(&self, buffer: &mut [u8]) -> Result<usize, Fault> {
+    pub fn report(&self, buffer: &mut [u8]) -> Result<usize, Fault>
+        ensures { λ r. ⌜ Fronted (now (buffer .entry)) (now (buffer .exit)) r ⌝ }
+    {
         let Some(run) = &self.run else {
             return Err(Fault::Bench(BenchFault::Unloaded));
         };
         let Some(value) = run.result() else {
             return Err(Fault::Bench(BenchFault::Running));
         };
-        let mut nothing = [0u8; 0];
-        let length = report_text(&mut nothing, run, &value);
-        if length > buffer.len() {
-            return Err(Fault::Bench(BenchFault::Short));
-        }
-        Ok(report_text(buffer, run, &value))
+        let text = report_text(run, &value);
+        copy_to_front(buffer, text.bytes())
     }
 
     pub fn machine(&self) -> &M {

@@ -1,4 +1,3 @@
 pub mod bench;
-pub mod report;
+mod report;
 pub mod session;
-pub mod text;

@@ -1,10 +1,4 @@
-// The texts: the report of an ended run, and the line of a refusal.
-ghost use Prim.Native.Nat.{_≤_};
-use faults::fault::Diagnosis;
-use faults::fault::Layer;
-use crate::text::decimal;
-use crate::text::put;
-use crate::text::put_all;
+// The report of an ended run.
 use grammar::tree::Range;
 use rules::program::Leaf;
 use rules::program::Program;
@@ -12,142 +6,97 @@ use rules::types::Type;
 use runs::run::Run;
 use runs::value::Item;
 use runs::value::Value;
+use texts::text::Text;
 
 // The type of a node, one with at most `left` leaves.
-fn type_text(buffer: &mut [u8], at: usize, program: &Program, node: usize, left: usize) -> usize {
+fn push_type(text: &mut Text, program: &Program, node: usize, left: usize) {
     match program.typed(node).shape {
-        Type::Unit => put_all(buffer, at, b"unit"),
-        Type::Bit => put_all(buffer, at, b"bit"),
-        Type::Int => put_all(buffer, at, b"int"),
-        Type::Qbit => put_all(buffer, at, b"qbit"),
+        Type::Unit => text.push_all(b"unit"),
+        Type::Bit => text.push_all(b"bit"),
+        Type::Int => text.push_all(b"int"),
+        Type::Qbit => text.push_all(b"qbit"),
         Type::Tuple(parts) => {
-            let at = put(buffer, at, b'(');
-            let at = type_parts(buffer, at, program, parts, left);
-            put(buffer, at, b')')
+            text.push(b'(');
+            push_types(text, program, parts, left);
+            text.push(b')');
         }
     }
 }
 
-fn type_parts(
-    buffer: &mut [u8],
-    start: usize,
-    program: &Program,
-    parts: Range,
-    left: usize,
-) -> usize {
-    let mut at = start;
+// The types of a tuple's parts; each has fewer leaves than the tuple.
+fn push_types(text: &mut Text, program: &Program, parts: Range, left: usize) {
     let mut part = parts.end;
     while parts.first < part {
         if part < parts.end {
-            at = put_all(buffer, at, b", ");
+            text.push_all(b", ");
         }
         part -= 1;
         let node = program.part(part);
         let leaves = program.typed(node).leaves;
         if leaves < left {
-            at = type_text(buffer, at, program, node, leaves);
+            push_type(text, program, node, leaves);
         }
     }
-    at
 }
 
-fn leaf_text(buffer: &mut [u8], at: usize, leaf: Leaf) -> usize {
+fn push_leaf(text: &mut Text, leaf: Leaf) {
     match leaf {
-        Leaf::Unit => put_all(buffer, at, b"()"),
-        Leaf::Bit(bit) => put_all(buffer, at, if bit { b"one" } else { b"zero" }),
-        Leaf::Int(n) => decimal(buffer, at, u64::from(n)),
+        Leaf::Unit => text.push_all(b"()"),
+        Leaf::Bit(bit) => {
+            if bit {
+                text.push_all(b"one");
+            } else {
+                text.push_all(b"zero");
+            }
+        }
+        Leaf::Int(n) => text.push_decimal(u64::from(n)),
         Leaf::Handle(handle) => {
-            let at = put(buffer, at, b'q');
-            decimal(buffer, at, u64::from(handle))
+            text.push(b'q');
+            text.push_decimal(u64::from(handle));
         }
     }
 }
 
 // The part of a value that begins at `from`.
-fn value_text(buffer: &mut [u8], at: usize, value: &Value, from: usize) -> usize {
+fn push_value(text: &mut Text, value: &Value, from: usize) {
     match value.item(from) {
-        Item::Leaf(leaf) => leaf_text(buffer, at, leaf),
+        Item::Leaf(leaf) => push_leaf(text, leaf),
         Item::Tuple(count) => {
-            let at = put(buffer, at, b'(');
-            let at = parts_text(buffer, at, value, from + 1, count);
-            put(buffer, at, b')')
+            text.push(b'(');
+            push_values(text, value, from + 1, count);
+            text.push(b')');
         }
     }
 }
 
 // So many parts of a value, of which the first begins at `first`.
-fn parts_text(buffer: &mut [u8], start: usize, value: &Value, first: usize, count: usize) -> usize {
-    let mut at = start;
+fn push_values(text: &mut Text, value: &Value, first: usize, count: usize) {
     let mut from = first;
     for part in 0..count {
         if part > 0 {
-            at = put_all(buffer, at, b", ");
+            text.push_all(b", ");
         }
-        at = value_text(buffer, at, value, from);
+        push_value(text, value, from);
         from = value.end(from);
     }
-    at
 }
 
-// The report of a run with this result; answers its length.
-pub(crate) fn report_text(buffer: &mut [u8], run: &Run, value: &Value) -> usize {
+// Four lines: the type, the need, the steps taken, and the result.
+pub(crate) fn report_text(run: &Run, value: &Value) -> Text {
     let program = run.program();
     let node = program.run_term();
-    let leaves = program.typed(node).leaves;
     let need = run.need();
-    let at = put_all(buffer, 0, b"type ");
-    let at = type_text(buffer, at, program, node, leaves);
-    let at = put_all(buffer, at, b"\nneed ");
-    let at = decimal(buffer, at, u64::from(need.steps));
-    let at = put(buffer, at, b' ');
-    let at = decimal(buffer, at, u64::from(need.peak));
-    let at = put_all(buffer, at, b"\ntaken ");
-    let at = decimal(buffer, at, u64::from(run.taken()));
-    let at = put_all(buffer, at, b"\nresult ");
-    let at = value_text(buffer, at, value, 0);
-    put(buffer, at, 10)
-}
-
-// The most bytes of a refused line.
-const LINE: usize = 48;
-
-// A line of text.
-#[derive(Clone, Copy)]
-pub struct Line {
-    bytes: [u8; LINE],
-    length: usize,
-    ghost within: { length ≤ 48 },
-}
-
-impl Line {
-    pub fn text(&self) -> &[u8] {
-        &self.bytes[..self.length]
-    }
-}
-
-fn layer_text(layer: Layer) -> &'static [u8] {
-    match layer {
-        Layer::Machine => b"machine",
-        Layer::Word => b"word",
-        Layer::Grammar => b"grammar",
-        Layer::Rule => b"rule",
-        Layer::Need => b"need",
-        Layer::Bench => b"bench",
-    }
-}
-
-// The line of a refusal: its layer, number and place.
-pub fn refused_line(diagnosis: Diagnosis) -> Line {
-    let mut bytes = [0u8; LINE];
-    let at = put_all(&mut bytes, 0, b"refused ");
-    let at = put_all(&mut bytes, at, layer_text(diagnosis.layer));
-    let at = put(&mut bytes, at, b' ');
-    let at = decimal(&mut bytes, at, u64::from(diagnosis.number));
-    let at = put(&mut bytes, at, b' ');
-    let at = decimal(&mut bytes, at, diagnosis.place as u64);
-    let at = put(&mut bytes, at, 10);
-    Line {
-        bytes,
-        length: at.min(LINE),
-    }
+    let mut text = Text::new();
+    text.push_all(b"type ");
+    push_type(&mut text, program, node, program.typed(node).leaves);
+    text.push_all(b"\nneed ");
+    text.push_decimal(u64::from(need.steps));
+    text.push(b' ');
+    text.push_decimal(u64::from(need.peak));
+    text.push_all(b"\ntaken ");
+    text.push_decimal(u64::from(run.taken()));
+    text.push_all(b"\nresult ");
+    push_value(&mut text, value, 0);
+    text.push(10);
+    text
 }

@@ -4,17 +4,17 @@ ghost use lib.ListN.{length};
 use crate::bench::Bench;
 use faults::fault::Fault;
 use faults::fault::FaultFromAlloc;
-use crate::report::refused_line;
 use machine::script::Script;
 use machine::script::ScriptMachine;
 use std::alloc::AllocError;
 use std::alloc::Global;
+use texts::refused::refused_line;
 
 // The capacity of the program's machine.
 const CAPACITY: u8 = 64;
 
 // More than the bytes of any report.
-const PAGE: usize = 512;
+const PAGE: usize = 256;
 
 // The place of the first line feed, or the length.
 fn line_end(input: &[u8]) -> usize
@@ -54,7 +54,7 @@ pub fn respond(heap: Global, input: &[u8]) -> Result<Vec<u8>, AllocError> {
     match run_listing(heap, bits.as_slice(), &input[start..], &mut page) {
         Ok(length) => Vec::from_slice(heap, &page[..length.min(PAGE)]),
         Err(fault) => match fault.diagnosis() {
-            Some(diagnosis) => Vec::from_slice(heap, refused_line(diagnosis).text()),
+            Some(diagnosis) => Vec::from_slice(heap, refused_line(diagnosis).bytes()),
             None => Err(AllocError),
         },
     }
