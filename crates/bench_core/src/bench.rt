@@ -1,5 +1,11 @@
 // The bench: a machine, and a run if one is loaded.
+ghost use mathlib.Core.Bool.{not};
+ghost use mathlib.Core.Path.{_≡_};
 ghost use Rattle.bench_core.specs.Buffers.{Copied, Fronted};
+ghost use Rattle.machine.specs.Model.{Clears};
+ghost use Rattle.bench_core.specs.Refusals.{If-refused};
+ghost use Rattle.std.specs.Options.{isSome};
+ghost use Rattle.std.specs.declared.option.Option.the-variants.{None};
 use crate::report::report_text;
 use faults::fault::BenchFault;
 use faults::fault::Fault;
@@ -94,13 +100,19 @@ pub struct Bench<M: Machine + Drop> {
 
 impl<M: Machine + Drop> Bench<M> {
     // Takes a machine and clears it.
-    pub fn open(mut machine: M) -> Bench<M> {
+    pub fn open(mut machine: M) -> Bench<M>
+        ensures machine { λ r. ⌜ Clears (model machine) (model (r .machine)) ⌝ }
+        ensures run { λ r. ⌜ r .run ≡ None ⌝ }
+    {
         machine.clear();
         Bench { machine, run: None }
     }
 
     // Reads and checks a listing, and begins its run; answers its need.
-    pub fn load(&mut self, heap: Global, listing: &[u8]) -> Result<Need, Fault> {
+    pub fn load(&mut self, heap: Global, listing: &[u8]) -> Result<Need, Fault>
+        ensures machine { λ _. ⌜ now (self .exit) .machine ≡ now (self .entry) .machine ⌝ }
+        ensures same { λ r. ⌜ If-refused r (now (self .exit) ≡ now (self .entry)) ⌝ }
+    {
         if self.run.is_some() {
             return Err(Fault::Bench(BenchFault::Loaded));
         }
@@ -129,7 +141,10 @@ impl<M: Machine + Drop> Bench<M> {
     }
 
     // Ends any run, clears the machine and empties the bench.
-    pub fn clear(&mut self) {
+    pub fn clear(&mut self)
+        ensures machine { λ _. ⌜ Clears (model (now (self .entry) .machine)) (model (now (self .exit) .machine)) ⌝ }
+        ensures run { λ _. ⌜ now (self .exit) .run ≡ None ⌝ }
+    {
         self.machine.clear();
         self.run = None;
     }
@@ -148,12 +163,16 @@ impl<M: Machine + Drop> Bench<M> {
         copy_to_front(buffer, text.bytes())
     }
 
-    pub fn machine(&self) -> &M {
+    pub fn machine(&self) -> &M
+        ensures { λ r. ⌜ now r ≡ now (self .entry) .machine ⌝ }
+    {
         &self.machine
     }
 
     // Is nothing loaded?
-    pub fn is_empty(&self) -> bool {
+    pub fn is_empty(&self) -> bool
+        ensures { λ r. ⌜ r ≡ not (isSome (now (self .entry) .run)) ⌝ }
+    {
         self.run.is_none()
     }
 
