@@ -1,0 +1,6 @@
+mod Tests
+mod Growth
+mod Arenas
+mod Productions
+mod Exits
+mod Headers

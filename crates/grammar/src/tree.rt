@@ -5,7 +5,6 @@ ghost use Rattle.grammar.specs.Trees.{Falls};
 use machine::order::Gate;
 use std::alloc::AllocError;
 use std::alloc::Global;
-use std::alloc::Refused;
 
 // A name where it stands in the listing.
 #[derive(Clone, Copy)]
@@ -205,16 +204,6 @@ impl Tree {
     // The table of parts.
     pub fn into_parts(self) -> Vec<usize> {
         self.parts
-    }
-
-    pub(crate) fn push(
-        &mut self,
-        place: usize,
-        construct: Construct,
-    ) -> Result<usize, Refused<Node>> {
-        let at = self.nodes.len();
-        self.nodes.push(Node { place, construct })?;
-        Ok(at)
     }
 }
 

@@ -11,7 +11,7 @@ use Rattle.machine.specs.declared.order.Gate.the-variants as gate
 use Rattle.words.specs.declared.token.Kind.{Kind}
 use Rattle.words.specs.declared.token.Kind.the-variants as kind
 
-abbrev pub kinds : List (List ℕ × Kind)
+unfoldable pub kinds : List (List ℕ × Kind)
 kinds =
     (codes "(", kind.Open)
     ∷ (codes ")", kind.Close)
@@ -39,7 +39,7 @@ kinds =
     ∷ (codes "one", kind.One)
     ∷ []
 
-abbrev pub gates : List (List ℕ × Gate)
+unfoldable pub gates : List (List ℕ × Gate)
 gates =
     (codes "X", gate.X)
     ∷ (codes "Y", gate.Y)

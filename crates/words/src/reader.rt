@@ -36,7 +36,7 @@ impl<'a> Reader<'a> {
     }
 
     // Passes the spaces and line feeds that come next.
-    pub fn skip_blanks(&mut self)
+    fn skip_blanks(&mut self)
         ensures listing { λ _. ⌜ now (self .exit) .listing .now ≡ now (self .entry) .listing .now ⌝ }
         ensures place { λ _. ⌜ now (self .exit) .place ≡ now (self .entry) .place + leading blank (drop (now (self .entry) .place) (now (self .entry) .listing .now)) ⌝ }
     {
@@ -46,7 +46,7 @@ impl<'a> Reader<'a> {
     }
 
     // The longest run of letters and digits that comes next.
-    pub fn run(&mut self) -> &'a [u8]
+    fn run(&mut self) -> &'a [u8]
         ensures listing { λ _. ⌜ now (self .exit) .listing .now ≡ now (self .entry) .listing .now ⌝ }
         ensures place { λ _. ⌜ now (self .exit) .place ≡ now (self .entry) .place + leading inner (drop (now (self .entry) .place) (now (self .entry) .listing .now)) ⌝ }
         ensures text { λ r. ⌜ now r ≡ take (leading inner (drop (now (self .entry) .place) (now (self .entry) .listing .now))) (drop (now (self .entry) .place) (now (self .entry) .listing .now)) ⌝ }

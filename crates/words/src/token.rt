@@ -1,11 +1,12 @@
 // The words of a listing: each is a part of the listing with its place.
 ghost use mathlib.Core.Path.{_≡_};
+ghost use Rattle.std.specs.Orderings.{Decides};
 ghost use Rattle.words.specs.declared.token.WordFault.the-variants.{Memory};
 use machine::order::Gate;
 use std::alloc::Refused;
 
 // The marks, and the reserved words that are no gate.
-#[derive(Clone, Copy, PartialEq, Eq)]
+#[derive(Clone, Copy)]
 pub enum Kind {
     Open,
     Close,
@@ -32,6 +33,16 @@ pub enum Kind {
     Zero,
     One,
 }
+
+pub impl PartialEq<Kind> for Kind as KindPartialEq {
+    ghost equals = { λ x y r. Decides r (x ≡ y) };
+
+    fn eq(&self, other: &Kind) -> bool {
+        *self as u8 == *other as u8
+    }
+}
+
+pub impl Eq for Kind as KindEq {}
 
 #[derive(Clone, Copy)]
 pub enum Word<'a> {

@@ -1,10 +1,10 @@
 // One word.
 ghost use mathlib.Core.Path.{_≡_};
-ghost use Prim.Native.Nat.{_<_};
-ghost use lib.ListN.{length};
-ghost use Rattle.words.specs.Places.{Passes};
+ghost use Prim.Native.Nat.{_+_, _<_};
+ghost use lib.ListN.{length, drop, take};
+ghost use Rattle.words.specs.Words.{span, Next};
 use super::Reader;
-use crate::lexer::meaning;
+use crate::meaning::meaning;
 use crate::token::Word;
 use crate::token::WordFault;
 
@@ -13,7 +13,8 @@ impl<'a> Reader<'a> {
     fn cut(&mut self) -> &'a [u8]
         requires { ⌜ now self .place < length (now self .listing .now) ⌝ }
         ensures listing { λ _. ⌜ now (self .exit) .listing .now ≡ now (self .entry) .listing .now ⌝ }
-        ensures more { λ _. ⌜ now (self .entry) .place < now (self .exit) .place ⌝ }
+        ensures place { λ _. ⌜ now (self .exit) .place ≡ now (self .entry) .place + span (drop (now (self .entry) .place) (now (self .entry) .listing .now)) ⌝ }
+        ensures text { λ r. ⌜ now r ≡ take (span (drop (now (self .entry) .place) (now (self .entry) .listing .now))) (drop (now (self .entry) .place) (now (self .entry) .listing .now)) ⌝ }
     {
         let start = self.place;
         let run = self.run();
@@ -27,7 +28,7 @@ impl<'a> Reader<'a> {
     // The next word, or None at the end.
     pub fn next(&mut self) -> Result<Option<Word<'a>>, WordFault>
         ensures listing { λ _. ⌜ now (self .exit) .listing .now ≡ now (self .entry) .listing .now ⌝ }
-        ensures next { λ r. ⌜ Passes (now (self .entry) .place) (now (self .exit) .place) r ⌝ }
+        ensures next { λ r. ⌜ Next (now (self .entry) .listing .now) (now (self .entry) .place) (now (self .exit) .place) r ⌝ }
     {
         self.skip_blanks();
         let place = self.place;

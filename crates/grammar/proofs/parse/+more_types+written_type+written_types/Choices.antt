@@ -1,4 +1,4 @@
--- The words left fall.
+-- The words left fall; a call at the same word goes to a function with a smaller number.
 use Prim.Native.Nat.{_+_, _-_, _*_}
 use lib.ListN.{length}
 use Rattle.grammar.proofs.parse.+more_types+written_type+written_types.Given as given

@@ -1,0 +1,5 @@
+use Rattle.calculus.proofs.Settled.{determined}
+use Rattle.calculus.proofs.determinism_stands.Needs as need
+
+pub returns : need.returns
+returns c = determined

@@ -1,0 +1,6 @@
+use Rattle.calculus.proofs.Fall.{steps-fall, ends}
+use Rattle.calculus.proofs.Count.{counted}
+use Rattle.calculus.proofs.steps_stand.Needs as need
+
+pub returns : need.returns
+returns c = record { fall = steps-fall; end = ends; counted = counted }

@@ -1,0 +1,9 @@
+pub mod Syntax
+pub mod Rules
+pub mod Steps
+pub mod Typing
+pub mod Need
+pub mod Room
+pub mod Laws
+pub mod Runs
+pub mod Peak

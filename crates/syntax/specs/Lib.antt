@@ -1,0 +1,3 @@
+pub mod Trees
+pub mod Grammar
+pub mod Machine
