@@ -63,7 +63,7 @@ fn push_value(text: &mut Text, value: &Value, from: usize) {
         Item::Leaf(leaf) => push_leaf(text, leaf),
         Item::Tuple(count) => {
             text.push(b'(');
-            push_values(text, value, from + 1, count);
+            push_values(text, value, from + 1, count as usize);
             text.push(b')');
         }
     }

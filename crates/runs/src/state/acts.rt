@@ -1,6 +1,7 @@
 // What a step does with finished parts.
 use super::Focus;
 use super::State;
+use crate::value::ITEMS;
 use crate::value::Item;
 use crate::value::Value;
 use grammar::tree::Range;
@@ -36,7 +37,8 @@ impl State {
     // The tuple of the latest finished parts.
     fn gathered(&self, base: usize) -> Value {
         let mut whole = Value::empty();
-        whole.push(Item::Tuple(self.values.len().saturating_sub(base)));
+        let count = self.values.len().saturating_sub(base);
+        whole.push(Item::Tuple(count.min(ITEMS) as u8));
         for at in base..self.values.len() {
             whole.append(&self.value_at(at));
         }

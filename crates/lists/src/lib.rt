@@ -1,0 +1,1 @@
+// Laws on lists that hold at most so many elements.
