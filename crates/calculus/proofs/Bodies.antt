@@ -10,9 +10,8 @@ use Rattle.calculus.specs.Room.{Body, Bodies, form-end, form-top, end, end-all
 use Rattle.calculus.specs.Syntax.{Ty, Tys, names, Form, tupling, meas, gate, call, Term, Terms, Op}
 use Rattle.calculus.specs.Rules.{Uses, Binding, Scope, Fits, Has, has-give, has-done, has-name, has-build, has-bind, has-mut, has-set, has-using, has-if, Parts, parts-none, parts-more}
 use Rattle.calculus.specs.Rules.{Under, under-none, under-more}
-use Rattle.calculus.proofs.Count.{found-of}
-use Rattle.calculus.proofs.Ends.{rise}
-use Rattle.calculus.proofs.Fall.{ends}
+use Rattle.calculus.proofs.Counting.{found-of}
+use Rattle.calculus.proofs.Live.{rise}
 
 module _ (ops : List Op) (lim : ℕ) (o o′ : Bodies) (same-below : (f : ℕ) → f < lim → o f ≡ o′ f) where
   form-agrees : (f : Form) (Ts : Tys) (T : Ty) → Fits ops lim f Ts T → (b : ℕ) → (form-end o f b ≡ form-end o′ f b) × (form-top o f b ≡ form-top o′ f b)

@@ -1,20 +1,31 @@
+-- names, substitution, wider scopes, the table
 pub mod Names
-pub mod Subst
-pub mod Grow
-pub mod Fill
+pub mod Substitution
+pub mod Growth
+pub mod Filling
 pub mod Tables
-pub mod Keep
-pub mod Go
-pub mod Fall
-pub mod Count
-pub mod Ends
-pub mod Rooms
+-- single steps
+pub mod Preservation
+pub mod Progress
+pub mod Falling
+pub mod Counting
+pub mod Live
+pub mod Room
 pub mod Bodies
-pub mod Machine
-pub mod Accept
-pub mod Whole
-pub mod Settled
+pub mod Determinism
+-- runs on a machine
+pub mod Orders
+pub mod Acceptance
+pub mod Soundness
+-- types
 pub mod Typing
-pub mod Weaken
-pub mod Nets
-pub mod Weights
+pub mod Weakening
+-- net and peak
+pub mod Linear
+pub mod Leaves
+pub mod Differences
+pub mod Peak
+pub mod Need
+pub mod Bounds
+pub mod Pieces
+pub mod Examples

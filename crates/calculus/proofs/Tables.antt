@@ -12,10 +12,10 @@ use Rattle.machine.specs.Model.{absent, distinct}
 use Rattle.calculus.specs.Syntax.{Ty, Tys, no-types, _∷ᵗ_, linear, some-linear, Duplicable, Name, var, entry, handle, is, Value, Values, no-values, _∷ᵛ_, typeOf, typesOf, Pattern, one}
 use Rattle.calculus.specs.Syntax.{several}
 use Rattle.calculus.specs.Rules.{Binding, settable, Spread, May-set, may-none, may-more}
-use Rattle.calculus.specs.Laws.{Plain}
+use Rattle.calculus.specs.Laws.{Plain, Unnamed-entries}
 use Rattle.calculus.specs.Steps.{Each-name, Clear, Table, write, written, around}
 use Rattle.calculus.proofs.Names.{never, eqb-sym, neither}
-use Rattle.calculus.proofs.Grow.{Grown, may-grow}
+use Rattle.calculus.proofs.Growth.{Grown, may-grow, grow}
 
 pub both-true : (a b : Bool) → (a && b) ≡ true → (a ≡ true) × (b ≡ true)
 both-true true b h = (refl, h)
@@ -131,3 +131,6 @@ spread-plain (several xs) T Ts sp d = rw sp d
 pub plain-spread : {N : Type 0} (xs : Pattern N) (T : Ty) (Ts : Tys) → Spread xs T Ts → Duplicable T → some-linear Ts ≡ false
 plain-spread (one x) T Ts sp d = rw (sp, d)
 plain-spread (several xs) T Ts sp d = rw sp at d
+
+pub unnamed-entries : Unnamed-entries
+unnamed-entries ops lim Δ t T μ es vs c h = grow ops lim lim (omega arith) (Clear es) h c (around (written es vs μ)) (grown-written es vs μ)

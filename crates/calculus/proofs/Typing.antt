@@ -13,7 +13,7 @@ use Rattle.calculus.specs.Rules.{Uses, nothing, Binding, type, Scope, extend, 
 use Rattle.calculus.specs.Rules.{has-using, has-if, Parts, parts-none, parts-more, Under, under-none, under-more}
 use Rattle.calculus.specs.Steps.{by-entry}
 use Rattle.calculus.proofs.Names.{held-dup}
-use Rattle.calculus.proofs.Fill.{fill-all, fill-values, fills-entries}
+use Rattle.calculus.proofs.Filling.{fill-all, fill-values, fills-entries}
 
 spread-same : {N : Type 0} (xs : Pattern N) (T U : Ty) (Ts Us : Tys) → T ≡ U → Spread xs T Ts → Spread xs U Us → Ts ≡ Us
 spread-same (one x) T U Ts Us q h k = cc

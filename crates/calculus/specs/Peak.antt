@@ -137,12 +137,12 @@ Peak-once = (ops : List Op) (well : Well ops) (P : ℕ → ℤ) → Peaks ops we
     (d : Has ops lim Γ Δ t T) (d′ : Has ops lim Γ Δ′ t U) → peak ops lim P d ≡ peak ops lim P d′
 
 -- the peaks of the bodies: the most that are live less the handles of the parameters
-abbrev pub op-peak : List Op → ℕ → Option Op → ℤ
-op-peak ops f none = pos 0
-op-peak ops f (some op) = pos (bodies ops f .tops (qbit-leaves-all (op .types)) - qbit-leaves-all (op .types))
+abbrev pub op-peak : Bodies → ℕ → Option Op → ℤ
+op-peak o f none = pos 0
+op-peak o f (some op) = pos (o f .tops (qbit-leaves-all (op .types)) - qbit-leaves-all (op .types))
 
 abbrev pub body-peaks : List Op → ℕ → ℤ
-body-peaks ops f = op-peak ops f (nth ops f)
+body-peaks ops f = op-peak (bodies ops) f (nth ops f)
 
 abbrev pub Peaks-found : Type 0
 Peaks-found = (ops : List Op) (well : Well ops) → Peaks ops well (body-peaks ops)

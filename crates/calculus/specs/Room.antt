@@ -88,11 +88,21 @@ moved (Prepared h ∷ os) b = moved os (suc b)
 moved (Applied g hs ∷ os) b = moved os b
 moved (Measured h c ∷ os) b = moved os (b - 1)
 
--- From b live handles, the most that are live from here on are those live now and the most that are live after the step; an if's step, which leaves out a branch, may lower that.
--- So a step never raises it, and each prepare of it finds room where that many fit.
+-- a step from b live handles, to as many as its event leaves
+pub record In-room (o : Bodies) (b : ℕ) (t : Term) (ev : Event) (t′ : Term) (chosen : Bool) : Type 0 where
+  -- the most that are live from here on are those live now and the most that are live after the step
+  pub exact : chosen ≡ false → top o b t ≡ max b (top o (moved ev b) t′)
+  -- so it stays, unless the step measures
+  pub stays : chosen ≡ false → b ≤ moved ev b → top o b t ≡ top o (moved ev b) t′
+  -- an if's step, which leaves out a branch, may lower it; no step raises it
+  pub falls : top o (moved ev b) t′ ≤ top o b t
+  -- the handles live before and after the step are within it, so each prepare of the step finds room where that many fit
+  pub before : b ≤ top o b t
+  pub after : moved ev b ≤ top o b t
+
 abbrev pub Room : Type 0
 Room = (ops : List Op) (o : Bodies) → Of-bodies ops o → (t t′ : Term) (μ μ′ : Table) (p : Place) (es : List ℕ) (ev : Event) → (s : Step ops t μ p es ev t′ μ′) → (b : ℕ) →
-    (chooses s ≡ false → top o b t ≡ max b (top o (moved ev b) t′)) × (max b (top o (moved ev b) t′) ≤ top o b t) × (moved ev b ≤ top o (moved ev b) t′)
+    In-room o b t ev t′ (chooses s)
 
 -- the numbers of the bodies can be found one after the other
 abbrev pub Bodies-found : Type 0

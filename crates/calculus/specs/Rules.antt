@@ -1,13 +1,13 @@
 -- Which terms have which type, in a scope (what each name is bound to) and with the linear names given (how many of each: none or one).
 use mathlib.Core.Path.{_≡_}
 use mathlib.Core.List.{List, [], _∷_}
-use mathlib.Core.Bool.{Bool, true, false, cond}
+use mathlib.Core.Bool.{cond}
 use mathlib.Core.Option.{Option, none, some}
 use Prim.Native.Nat.{ℕ, zero, suc, _+_, _<_, _≤_}
 use lib.ListN.{length}
 use Rattle.machine.specs.Orders.{width}
-use Rattle.calculus.specs.Syntax.{Ty, unit, bit, int, qbit, tuple, Tys, no-types, _∷ᵗ_, leaves, linear, Duplicable, Name, var, entry, handle, is}
-use Rattle.calculus.specs.Syntax.{Value, the-unit, bit-of, int-of, handle-of, tuple-of, Values, no-values, _∷ᵛ_, typeOf, typesOf}
+use Rattle.calculus.specs.Syntax.{Ty, bit, qbit, tuple, Tys, no-types, _∷ᵗ_, leaves, linear, Duplicable, Name, var, handle, is}
+use Rattle.calculus.specs.Syntax.{Value, the-unit, bit-of, int-of, handle-of, tuple-of, Values, no-values, _∷ᵛ_, typeOf}
 use Rattle.calculus.specs.Syntax.{Pattern, one, several, names, Form, tupling, meas, gate, call, Place, Op}
 use Rattle.calculus.specs.Syntax.{Term, give, done, name, build, bind, mut, set, using-in, if-else, Terms, no-terms, _∷ˢ_}
 
@@ -110,18 +110,26 @@ pub data May-set (Γ : Scope) : List Name → Tys → Type 0 where
 module _ (ops : List Op) (lim : ℕ) where
   mutual
     pub data Has : Scope → Uses → Term → Ty → Type 0 where
+      -- a constant or a pending value uses no name but the handles that it holds, and so does a finished one
       has-give : {Γ : Scope} {Δ : Uses} {p : Place} {v : Value} {T : Ty} → T ≡ typeOf v → Same Δ (held v) → Has Γ Δ (give p v) T
       has-done : {Γ : Scope} {Δ : Uses} {v : Value} {T : Ty} → T ≡ typeOf v → Same Δ (held v) → Has Γ Δ (done v) T
+      -- a name has its type, and its context has no other linear name
       has-name : {Γ : Scope} {Δ : Uses} {p : Place} {n : Name} {T : Ty} → (b : Binding) → Γ n ≡ some b → T ≡ type b → Same Δ (spent T n) → Has Γ Δ (name p n) T
+      -- tuple, meas, gate and call, of their parts
       has-build : {Γ : Scope} {Δ : Uses} {p : Place} {f : Form} {ts : Terms} {T : Ty} → (Ts : Tys) → Parts Γ Δ ts Ts → Fits ops lim f Ts T → Has Γ Δ (build p f ts) T
+      -- let: its names have the right side's type, or its parts, in the second term only
       has-bind : {Γ : Scope} {Δ : Uses} {p : Place} {xs : Pattern ℕ} {e t : Term} {U : Ty} → (Δ₁ Δ₂ : Uses) (T : Ty) (Ts : Tys) → Divides Δ Δ₁ Δ₂ →
           Has Γ Δ₁ e T → Spread xs T Ts → Under fixed Γ Δ₂ (names xs) Ts t U → Has Γ Δ (bind p xs e t) U
+      -- mut: let with a duplicable right side that uses no linear name of the text; its names may be set
       has-mut : {Γ : Scope} {Δ : Uses} {p : Place} {xs : Pattern ℕ} {e t : Term} {U : Ty} → (Δ₁ Δ₂ : Uses) (T : Ty) (Ts : Tys) → Divides Δ Δ₁ Δ₂ →
           Has Γ Δ₁ e T → No-var Δ₁ → Duplicable T → Spread xs T Ts → Under settable Γ Δ₂ (names xs) Ts t U → Has Γ Δ (mut p xs e t) U
+      -- set: names that may be set, and a right side of exactly their types that uses no linear name of the text
       has-set : {Γ : Scope} {Δ : Uses} {p : Place} {ns : Pattern Name} {e t : Term} {U : Ty} → (Δ₁ Δ₂ : Uses) (T : Ty) (Ts : Tys) → Divides Δ Δ₁ Δ₂ →
           Has Γ Δ₁ e T → No-var Δ₁ → Spread ns T Ts → May-set Γ (names ns) Ts → Has Γ Δ₂ t U → Has Γ Δ (set p ns e t) U
+      -- using: its names are qbits of its term
       has-using : {Γ : Scope} {Δ : Uses} {p : Place} {xs : Pattern ℕ} {t : Term} {U : Ty} →
           Under fixed Γ Δ (names xs) (qbits (length (names xs))) t U → Has Γ Δ (using-in p xs t) U
+      -- if: a bit, and two branches of one type with the same linear names
       has-if : {Γ : Scope} {Δ : Uses} {p : Place} {c t u : Term} {U : Ty} → (Δ₁ Δ₂ : Uses) → Divides Δ Δ₁ Δ₂ →
           Has Γ Δ₁ c bit → Has Γ Δ₂ t U → Has Γ Δ₂ u U → Has Γ Δ (if-else p c t u) U
 

@@ -2,13 +2,13 @@
 use mathlib.Core.Path.{_≡_}
 use mathlib.Core.List.{List, [], _∷_, map}
 use mathlib.Core.Bool.{Bool, true, false, cond}
-use Prim.Native.Nat.{ℕ, suc, _+_, _≤_, _<_}
+use Prim.Native.Nat.{ℕ, suc, _+_, _%_, _^_, _≤_, _<_}
 use lib.ListN.{length}
 use Rattle.machine.specs.Orders.{width, handle-list}
 use Rattle.machine.specs.Model.{Model, ordered, Does, Makes, every, distinct, tally}
 use Rattle.machine.specs.declared.order.Order.{Order}
 use Rattle.machine.specs.declared.order.Order.the-variants.{Prepared, Applied, Measured}
-use Rattle.calculus.specs.Syntax.{Ty, Name, var, entry, handle, Place, Op, Term}
+use Rattle.calculus.specs.Syntax.{Ty, var, entry, handle, Value, Place, Op, Term, done}
 use Rattle.calculus.specs.Rules.{Uses, nothing, nowhere, Has, Well}
 use Rattle.calculus.specs.Steps.{Table, empty, around, Event, Whole-step}
 use Rattle.calculus.specs.Need.{steps, body-costs}
@@ -42,6 +42,10 @@ pub record Run-step (ops : List Op) (t : Term) (μ : Table) (m : Model) (p : Pla
   pub step : Whole-step ops t μ p event t′ μ′
   pub does : Makes m (map ordered event) m′
 
+-- each order is counted
+abbrev pub Orders-counted : Type 0
+Orders-counted = (ev : Event) (m m′ : Model) → Makes m (map ordered ev) m′ → m′ .count ≡ (m .count + length ev) % 2 ^ 32
+
 -- the run of start on a machine that meant m₀ has come to this by k steps
 pub data Reached (ops : List Op) (start : Term) (m₀ : Model) : ℕ → Term → Table → Model → Type 0 where
   at-start : Reached ops start m₀ 0 start empty m₀
@@ -55,21 +59,42 @@ steps-of ops t = steps (body-costs ops) t
 abbrev pub most-live : List Op → ℕ → Term → ℕ
 most-live ops b t = top (bodies ops) b t
 
--- what holds all along a run
-pub record Sound (ops : List Op) (start : Term) (T : Ty) (m₀ : Model) (k : ℕ) (t : Term) (μ : Table) (m : Model) : Type 0 where
-  -- what is left has the type of the whole, and its linear names are exactly the live handles
+-- what is left has its type in exactly the live handles, the table holds none of them, and there is room for the most that are live from here on
+pub record Safe (ops : List Op) (T : Ty) (t : Term) (μ : Table) (m : Model) : Type 0 where
   pub typed : Has ops (length ops) (around μ) (live-names m) t T
   pub plain : Plain μ
-  -- the steps taken and those left never pass the need
+  pub room : most-live ops (live-count m) t ≤ m .capacity
+
+-- so it goes on, and the machine accepts every order of a step
+pub record Never-stuck (ops : List Op) (t : Term) (μ : Table) (m : Model) : Type 0 where
+  -- whatever the machine answers, what is left is finished or has a step
+  pub goes-on : (hs : ℕ → ℕ) (b : Bool) → Goes-on ops t μ hs b
+  pub accepted : (p : Place) (ev : Event) (t′ : Term) (μ′ : Table) → Whole-step ops t μ p ev t′ μ′ → Accepts-all m ev
+
+abbrev pub Safety : Type 0
+Safety = (ops : List Op) → Well ops → (T : Ty) (t : Term) (μ : Table) (m : Model) → Safe ops T t μ m → Never-stuck ops t μ m
+
+-- and a step leaves it so, with fewer steps left and no more room needed
+pub record Kept-safe (ops : List Op) (T : Ty) (t t′ : Term) (μ′ : Table) (m m′ : Model) : Type 0 where
+  pub safe : Safe ops T t′ μ′ m′
+  pub capacity : m′ .capacity ≡ m .capacity
+  pub fewer : steps-of ops t′ < steps-of ops t
+  pub no-more : most-live ops (live-count m′) t′ ≤ most-live ops (live-count m) t
+
+abbrev pub Safety-kept : Type 0
+Safety-kept = (ops : List Op) → Well ops → (T : Ty) (t t′ : Term) (μ μ′ : Table) (m m′ : Model) (p : Place) → Safe ops T t μ m → Run-step ops t μ m p t′ μ′ m′ → Kept-safe ops T t t′ μ′ m m′
+
+-- what holds all along a run
+pub record Sound (ops : List Op) (start : Term) (T : Ty) (m₀ : Model) (k : ℕ) (t : Term) (μ : Table) (m : Model) : Type 0 where
+  pub safe : Safe ops T t μ m
+  pub never-stuck : Never-stuck ops t μ m
+  -- the steps taken and those left never pass the need, and all of it is taken only by a run that has ended
   pub in-steps : k + steps-of ops t ≤ steps-of ops start
-  -- nor do the live handles with the most that may come
+  pub last : k ≡ steps-of ops start → (v : Value) × (t ≡ done v)
+  -- nor do the live handles, with those that may still come
   pub in-room : most-live ops (live-count m) t ≤ most-live ops 0 start
   pub live-few : live-count m ≤ most-live ops 0 start
   pub capacity : m .capacity ≡ m₀ .capacity
-  -- whatever the machine answers, what is left is finished or has a step
-  pub goes-on : (hs : ℕ → ℕ) (b : Bool) → Goes-on ops t μ hs b
-  -- and the machine accepts every order of it
-  pub accepted : (p : Place) (ev : Event) (t′ : Term) (μ′ : Table) → Whole-step ops t μ p ev t′ μ′ → Accepts-all m ev
 
 -- a listing with a type, on a machine with no live handle and with room for the most that it needs
 abbrev pub Soundness : Type 0

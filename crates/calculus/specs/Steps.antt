@@ -2,20 +2,21 @@
 use mathlib.Core.Path.{_≡_}
 use mathlib.Core.List.{List, [], _∷_, map}
 use mathlib.Core.Bool.{Bool, true, false, cond}
-use mathlib.Core.Option.{Option, none, some}
-use Prim.Native.Nat.{ℕ, zero, suc, _+_, _≤_}
+use mathlib.Core.Option.{none, some}
+use Prim.Native.Nat.{ℕ, suc, _+_}
 use lib.Dec.{eqb}
 use lib.ListN.{length}
 use Rattle.machine.specs.Orders.{width, handle-list}
 use Rattle.machine.specs.Model.{absent, distinct}
+use Rattle.machine.specs.declared.order.Gate.{Gate}
 use Rattle.machine.specs.declared.order.Handles.{Handles}
 use Rattle.machine.specs.declared.order.Order.{Order}
 use Rattle.machine.specs.declared.order.Order.the-variants.{Prepared, Applied, Measured}
-use Rattle.calculus.specs.Syntax.{Ty, linear, Duplicable, Name, var, entry, handle, is}
-use Rattle.calculus.specs.Syntax.{Value, the-unit, bit-of, int-of, handle-of, tuple-of, Values, no-values, _∷ᵛ_, typeOf, typesOf}
+use Rattle.calculus.specs.Syntax.{Name, var, entry, handle, is}
+use Rattle.calculus.specs.Syntax.{Value, the-unit, bit-of, int-of, handle-of, tuple-of, Values, no-values, _∷ᵛ_, typeOf}
 use Rattle.calculus.specs.Syntax.{Pattern, one, several, names, Form, tupling, meas, gate, call, Place, Op}
 use Rattle.calculus.specs.Syntax.{Term, give, done, name, build, bind, mut, set, using-in, if-else, Terms, no-terms, _∷ˢ_}
-use Rattle.calculus.specs.Rules.{Uses, once, held, Binding, settable, Scope, nth}
+use Rattle.calculus.specs.Rules.{Uses, once, settable, Scope, nth}
 
 -- what stands for a bound name: a value, or a mut name's entry
 pub data Stand : Type 0 where
@@ -176,11 +177,12 @@ joined no-values = tuple-of no-values
 joined (v ∷ᵛ no-values) = v
 joined (v ∷ᵛ (w ∷ᵛ vs)) = tuple-of (v ∷ᵛ (w ∷ᵛ vs))
 
--- a form whose parts are values
+-- a form whose parts are values: a tuple is finished; meas sends its order and is the bit given; a gate sends its order and is its handles in the same order;
+-- a call goes on with the body, the values put for the parameters
 pub data Acts (ops : List Op) : Form → Values → Event → Term → Type 0 where
   acts-tuple : {vs : Values} → Acts ops tupling vs [] (done (tuple-of vs))
   acts-meas : {h : ℕ} {b : Bool} → Acts ops meas (handle-of h ∷ᵛ no-values) (Measured h b ∷ []) (done (bit-of b))
-  acts-gate : {g : Rattle.machine.specs.declared.order.Gate.Gate} {vs : Values} → (hs : Handles) → vs ≡ handle-values (handle-list hs) →
+  acts-gate : {g : Gate} {vs : Values} → (hs : Handles) → vs ≡ handle-values (handle-list hs) →
       Acts ops (gate g) vs (Applied g hs ∷ []) (done (joined vs))
   acts-call : {f : ℕ} {vs : Values} → (op : Op) → nth ops f ≡ some op → Acts ops (call f) vs [] (puts (op .params) (given vs) (op .body))
 
@@ -189,7 +191,10 @@ abbrev pub Taken : {N : Type 0} → Pattern N → Value → Values → Type 0
 Taken (one x) v vs = vs ≡ v ∷ᵛ no-values
 Taken (several xs) v vs = v ≡ tuple-of vs
 
--- a step: at which place, with which new entries, with which event
+-- A step: at which place, with which new entries, with which event.
+-- Constants, names and using step when reached; forms when their parts are values, let, mut, set and if when the right side or condition is one.
+-- A name gives its entry's present value. The names of a mut become new entries; a set writes the entries that it names; using prepares a handle for each name;
+-- if goes on with its first branch on one.
 mutual
   pub data Step (ops : List Op) : Term → Table → Place → List ℕ → Event → Term → Table → Type 0 where
     step-give : {p : Place} {v : Value} {μ : Table} → Step ops (give p v) μ p [] [] (done v) μ

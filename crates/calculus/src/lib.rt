@@ -1,19 +1,25 @@
 // The calculus of listings: types, values, terms, typing rules, need and steps stand in specs/. Each function here names laws that they satisfy, and does nothing.
 ghost use Rattle.calculus.specs.Room.{Room, Bodies-found};
-ghost use Rattle.calculus.specs.Runs.{Soundness};
+ghost use Rattle.calculus.specs.Runs.{Orders-counted, Safety, Safety-kept, Soundness};
 ghost use Rattle.calculus.specs.Typing.{One-type, Leaves-counted, No-handle, Substitution, Renaming, Weakening, Absent};
-ghost use Rattle.calculus.specs.Laws.{Preservation, Progress, Steps-fall, Ends, Counted, Determined};
+ghost use Rattle.calculus.specs.Peak.{Net-is, Peak-is, Same-net, Peak-once, Peaks-found, Peak-of-listing, Peak-of-left};
+ghost use Rattle.calculus.specs.Examples.{Worked};
+ghost use Rattle.calculus.specs.Pieces.{Net-by-pieces, Peak-by-pieces, Pieces-found, Need-by-pieces};
+ghost use Rattle.calculus.specs.Bounds.{Step-within, Run-within};
+ghost use Rattle.calculus.specs.Laws.{Preservation, Unnamed-entries, Progress, Sends, Steps-fall, Ends, Counted, Determined};
 
-// A step keeps the type of what is left, and its linear names change as the live handles do.
+// A step keeps the type of what is left, and its linear names change as the live handles do; entries that are not named make no difference.
 pub fn preservation_stands() -> u8
-    ensures { λ _. ⌜ Preservation ⌝ }
+    ensures kept { λ _. ⌜ Preservation ⌝ }
+    ensures entries { λ _. ⌜ Unnamed-entries ⌝ }
 {
     0
 }
 
-// Whatever the machine answers, what is left is finished or has a step.
+// Whatever the machine answers, what is left is finished or has a step; and the orders that a step sends.
 pub fn progress_stands() -> u8
-    ensures { λ _. ⌜ Progress ⌝ }
+    ensures goes { λ _. ⌜ Progress ⌝ }
+    ensures sends { λ _. ⌜ Sends ⌝ }
 {
     0
 }
@@ -35,10 +41,13 @@ pub fn room_stands() -> u8
     0
 }
 
-// Along every run of a listing with a type, on a machine with enough room: what is left keeps the type in exactly the live handles, steps and handles stay within
-// the need, there is always a step until all is finished, and the machine accepts every order.
+// What is left that is typed in exactly the live handles, with room for the most that it needs, goes on whatever the machine answers, and the machine accepts every order;
+// a step leaves it so. Along every run of a listing with a type, on a machine with enough room, this holds, and steps and live handles stay within the need.
 pub fn runs_stand() -> u8
-    ensures { λ _. ⌜ Soundness ⌝ }
+    ensures safe { λ _. ⌜ Safety ⌝ }
+    ensures kept { λ _. ⌜ Safety-kept ⌝ }
+    ensures sound { λ _. ⌜ Soundness ⌝ }
+    ensures counted { λ _. ⌜ Orders-counted ⌝ }
 {
     0
 }
@@ -59,6 +68,44 @@ pub fn typing_stands() -> u8
     ensures entries { λ _. ⌜ Renaming ⌝ }
     ensures wider { λ _. ⌜ Weakening ⌝ }
     ensures absent { λ _. ⌜ Absent ⌝ }
+{
+    0
+}
+
+// Net and peak, as the language words them, are what the live handles do: the net is their change, the peak the most that are added.
+pub fn need_stands() -> u8
+    ensures net { λ _. ⌜ Net-is ⌝ }
+    ensures peak { λ _. ⌜ Peak-is ⌝ }
+    ensures branches { λ _. ⌜ Same-net ⌝ }
+    ensures once { λ _. ⌜ Peak-once ⌝ }
+    ensures found { λ _. ⌜ Peaks-found ⌝ }
+    ensures listing { λ _. ⌜ Peak-of-listing ⌝ }
+    ensures left { λ _. ⌜ Peak-of-left ⌝ }
+{
+    0
+}
+
+// Live handles plus the peak of what is left never rise along a run, so they never pass the peak of the listing.
+pub fn bounds_stand() -> u8
+    ensures step { λ _. ⌜ Step-within ⌝ }
+    ensures run { λ _. ⌜ Run-within ⌝ }
+{
+    0
+}
+
+// Net and peak found from the pieces of a term alone, without its types, are those of the types.
+pub fn pieces_stand() -> u8
+    ensures net { λ _. ⌜ Net-by-pieces ⌝ }
+    ensures peak { λ _. ⌜ Peak-by-pieces ⌝ }
+    ensures found { λ _. ⌜ Pieces-found ⌝ }
+    ensures need { λ _. ⌜ Need-by-pieces ⌝ }
+{
+    0
+}
+
+// Listings with a type and listings without one, their need, and what they come to.
+pub fn examples_stand() -> u8
+    ensures { λ _. ⌜ Worked ⌝ }
 {
     0
 }

@@ -1,4 +1,4 @@
-use Rattle.calculus.proofs.Settled.{determined}
+use Rattle.calculus.proofs.Determinism.{determined}
 use Rattle.calculus.proofs.determinism_stands.Needs as need
 
 pub returns : need.returns

@@ -1,4 +1,4 @@
-use Rattle.calculus.proofs.Rooms.{stays-in-room}
+use Rattle.calculus.proofs.Room.{stays-in-room}
 use Rattle.calculus.proofs.Bodies.{bodies-found}
 use Rattle.calculus.proofs.room_stands.Needs as need
 

@@ -1,5 +1,5 @@
-use Rattle.calculus.proofs.Fall.{steps-fall, ends}
-use Rattle.calculus.proofs.Count.{counted}
+use Rattle.calculus.proofs.Falling.{steps-fall, ends}
+use Rattle.calculus.proofs.Counting.{counted}
 use Rattle.calculus.proofs.steps_stand.Needs as need
 
 pub returns : need.returns

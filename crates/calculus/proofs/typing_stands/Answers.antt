@@ -1,5 +1,5 @@
 use Rattle.calculus.proofs.Typing.{one-type, leaves-counted, no-handle, substitution, renaming}
-use Rattle.calculus.proofs.Weaken.{weakening, absent-linear}
+use Rattle.calculus.proofs.Weakening.{weakening, absent-linear}
 use Rattle.calculus.proofs.typing_stands.Needs as need
 
 pub returns : need.returns

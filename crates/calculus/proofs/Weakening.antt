@@ -12,8 +12,7 @@ use Rattle.calculus.specs.Rules.{Uses, once, Same, spent, held, held-all, Bind
 use Rattle.calculus.specs.Rules.{has-build, has-bind, has-mut, has-set, has-using, has-if, Parts, parts-none, parts-more, Under, under-none, under-more}
 use Rattle.calculus.specs.Steps.{Each-held, Each-held-all, Each-name, Each, Each-part}
 use Rattle.calculus.proofs.Names.{never, is-eq, is-refl, spent-other}
-use Rattle.calculus.proofs.Grow.{fits-up}
-use Rattle.calculus.proofs.Go.{bound}
+use Rattle.calculus.proofs.Growth.{fits-up}
 
 -- Γ′ binds all that Γ binds; a name that is new to Γ, and not in G, is new to Γ′
 record Widens (G Γ Γ′ : Scope) : Type 0 where

@@ -9,7 +9,7 @@ use lib.ListN.{length}
 use Rattle.machine.specs.Orders.{width, handle-list}
 use Rattle.machine.specs.Model.{distinct}
 use Rattle.machine.specs.declared.order.Order.the-variants.{Prepared, Applied, Measured}
-use Rattle.calculus.specs.Syntax.{Ty, bit, qbit, tuple, Tys, _∷ᵗ_, some-linear, Duplicable, Name, var, entry, Value, Values, no-values, _∷ᵛ_, typeOf, typesOf, flat, Pattern, one, several}
+use Rattle.calculus.specs.Syntax.{Ty, bit, qbit, tuple, Tys, _∷ᵗ_, some-linear, Duplicable, Name, var, entry, Value, Values, no-values, _∷ᵛ_, typeOf, typesOf, Pattern, one, several}
 use Rattle.calculus.specs.Syntax.{names, Form, Place, Term, Terms, Op}
 use Rattle.calculus.specs.Rules.{Uses, nothing, Same, Divides, spent, held, held-all, Binding, fixed, settable, type, Scope, nowhere, No-var, Spread, qbits, together, Fits, May-set, Has}
 use Rattle.calculus.specs.Rules.{has-give, has-done, has-name, has-build, has-bind, has-mut, has-set, has-using, has-if, Parts, parts-none, parts-more, Under, under-none, under-more, Well}
@@ -19,8 +19,8 @@ use Rattle.calculus.specs.Steps.{one-done, joined, Acts, acts-tuple, acts-meas
 use Rattle.calculus.specs.Steps.{step-mut-in, step-mut, step-set-in, step-set, step-using, step-if-in, step-if, Step-part, step-first, step-later}
 use Rattle.calculus.proofs.Names.{never, held-dup}
 use Rattle.calculus.proofs.Tables.{grown-written, how-many, may-written, grown-set, plain-set, plain-written, plain-types, spread-plain, plain-spread}
-use Rattle.calculus.proofs.Fill.{fill-all, fill-values, fills-entries}
-use Rattle.calculus.proofs.Grow.{Grown, Any, grown-same, may-grow, grow, grow-parts, grow-under, widen-under}
+use Rattle.calculus.proofs.Filling.{fill-all, fill-values, fills-entries}
+use Rattle.calculus.proofs.Growth.{Grown, Any, grown-same, may-grow, grow, grow-parts, grow-under, widen-under}
 
 pub record Kept (ops : List Op) (lim : ℕ) (μ μ′ : Table) (es : List ℕ) (Δ : Uses) (ev : Event) (t′ : Term) (T : Ty) : Type 0 where
   pub uses : Uses
@@ -279,4 +279,13 @@ module _ (ops : List Op) (lim : ℕ) (well : Well ops) where
 pub preservation : Preservation
 preservation ops lim well t t′ μ μ′ p ev Δ T pl h w =
     let k = keep ops lim well (w .step) Δ T pl (w .fresh .apart) (w .fresh .unnamed) h in
-    record { uses = k .uses; typed = k .has; changed = k .changed; plain = k .plain }
+    record {
+      uses = k .uses;
+      typed = k .has;
+      changed = k .changed;
+      entries = λ e c. inj (typeOf (μ′ e)) (typeOf (μ e)) (k .grown .keeps (entry e) (settable (typeOf (μ e))) c refl);
+      plain = k .plain;
+    }
+  where
+    inj : (A B : Ty) → some (settable A) ≡ some (settable B) → A ≡ B
+    inj A B h = cc

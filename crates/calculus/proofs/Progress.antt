@@ -24,7 +24,7 @@ use Rattle.calculus.specs.Steps.{joined, Acts, acts-tuple, acts-meas, acts-gat
 use Rattle.calculus.specs.Steps.{step-mut, step-set-in, step-set, step-using, step-if-in, step-if, Step-part, step-first, step-later, Agrees}
 use Rattle.calculus.proofs.Names.{never}
 use Rattle.calculus.proofs.Tables.{are-entries}
-use Rattle.calculus.proofs.Keep.{all-done}
+use Rattle.calculus.proofs.Preservation.{all-done}
 
 -- new entries, from k on
 abbrev pub from : ℕ → ℕ → List ℕ
@@ -92,7 +92,7 @@ module _ (k n : ℕ) where
     clear-held-all (v ∷ᵛ vs) = (clear-held v, clear-held-all vs)
 
   mutual
-    clear : (t : Term) → bound t ≤ k → Each (Clear (from k n)) t
+    pub clear : (t : Term) → bound t ≤ k → Each (Clear (from k n)) t
     clear (give p v) l = clear-held v
     clear (done v) l = clear-held v
     clear (name p m) l = clear-name m l

@@ -9,7 +9,7 @@ use Rattle.calculus.specs.Rules.{Uses, nothing, Same, Divides, spent, held, he
 use Rattle.calculus.specs.Rules.{under-none, under-more}
 use Rattle.calculus.specs.Steps.{Stand, by-entry, puts, given}
 use Rattle.calculus.proofs.Names.{neither, swapped, swap-divides, swap-absent, swap-here}
-use Rattle.calculus.proofs.Subst.{Stands-for, value-stands, entry-stands, without-extended, extend-stands, weigh, stands-clean, sub}
+use Rattle.calculus.proofs.Substitution.{Stands-for, value-stands, entry-stands, without-extended, extend-stands, weigh, stands-clean, sub}
 
 -- equal linear names
 pub by-uses : {ops : List Op} {lim : ℕ} {Γ : Scope} {Δ Δ′ : Uses} {t : Term} {T : Ty} → Same Δ Δ′ → Has ops lim Γ Δ t T → Has ops lim Γ Δ′ t T

@@ -8,26 +8,18 @@ use lib.ListN.{length}
 use borrow.Author.Tests.{ne-eqb}
 use Rattle.machine.specs.Orders.{handle-list}
 use Rattle.machine.specs.Model.{Model, distinct, every}
-use Rattle.machine.specs.declared.order.Gate.{Gate}
 use Rattle.machine.specs.declared.order.Handles.{Handles}
 use Rattle.machine.specs.declared.order.Handles.the-variants.{One, Two}
-use Rattle.machine.specs.declared.order.Order.the-variants.{Applied, Measured}
 use Rattle.calculus.specs.Runs.{live-names, live-count, Accepts-all}
 use Rattle.calculus.specs.Room.{moved}
 use Rattle.calculus.specs.Syntax.{Name, handle, Values, Form, Place, Term, Terms, Op}
 use Rattle.calculus.specs.Rules.{once}
+use Rattle.calculus.specs.Laws.{Shape, silent, measuring, applying, preparing, Sends}
 use Rattle.calculus.specs.Steps.{Table, Event, prepares, handle-names, named, In-width, Acts, acts-tuple, acts-meas, acts-gate, acts-call, Step, step-give, step-name, step-parts, step-build}
 use Rattle.calculus.specs.Steps.{step-bind-in, step-bind, step-mut-in, step-mut, step-set-in, step-set, step-using, step-if-in, step-if, Step-part, step-first, step-later}
-use Rattle.calculus.proofs.Rooms.{prepares-move}
+use Rattle.calculus.proofs.Room.{prepares-move}
 use Rattle.calculus.proofs.Names.{never, is-refl}
-use Rattle.calculus.proofs.Machine.{prepare-count}
-
--- a step sends no order, one measurement, one gate, or a prepare for each name of a using
-pub data Shape : Event → Type 0 where
-  silent : Shape []
-  measuring : {h : ℕ} {b : Bool} → Shape (Measured h b ∷ [])
-  applying : {g : Gate} {hs : Handles} → Shape (Applied g hs ∷ [])
-  preparing : (hs : List ℕ) → Shape (prepares hs)
+use Rattle.calculus.proofs.Orders.{prepare-count}
 
 act-shape : {ops : List Op} {f : Form} {vs : Values} {ev : Event} {t : Term} → Acts ops f vs ev t → Shape ev
 act-shape acts-tuple = silent
@@ -94,3 +86,6 @@ accepts silent m l w r = tt
 accepts (measuring {h} {b}) m l w r = (is-live m h (omega (arith, l (handle h), here h)), λ k d. tt)
 accepts (applying {hs = hs}) m l w r = let q = gate-accepted m hs (λ n. omega (arith, l n)) in ((w .0, q .0, q .1), λ k d. tt)
 accepts (preparing hs) m l w r = prepares-accepted hs m (omega (arith, r, prepares-move hs (live-count m)))
+
+pub sends : Sends
+sends ops t t′ μ μ′ p es ev s = shape s

@@ -5,7 +5,7 @@ use mathlib.Core.Bool.{Bool, true, false, cond}
 use mathlib.Core.Option.{none, some}
 use Prim.Native.Nat.{ℕ, _≤_}
 use native.Mathlib.Omega.{arith}
-use lib.Dec.{eqb, T}
+use lib.Dec.{eqb}
 use Rattle.calculus.specs.Syntax.{Ty, Tys, Name, var, handle, is, Value, the-unit, bit-of, int-of, handle-of, tuple-of, Values, no-values, _∷ᵛ_, names, Form, tupling, meas, gate, call, Term}
 use Rattle.calculus.specs.Syntax.{give, done, name, build, bind, mut, set, using-in, if-else, Terms, no-terms, _∷ˢ_, Op}
 use Rattle.calculus.specs.Rules.{Uses, Binding, settable, Scope, extend, Fits, May-set, may-none, may-more, Has, has-give, has-done, has-name, has-build, has-bind, has-mut, has-set}
@@ -108,3 +108,36 @@ widen {ops} {lim} {lim′} {Γ′ = Γ′} {t = t} le g h = grow ops lim lim′ 
 pub widen-under : {ops : List Op} {lim lim′ : ℕ} {as-bound : Ty → Binding} {Γ Γ′ : Scope} {Δ : Uses} {xs : List ℕ} {Ts : Tys} {t : Term} {T : Ty} → lim ≤ lim′ → Grown Any Γ Γ′ →
     Under ops lim as-bound Γ Δ xs Ts t T → Under ops lim′ as-bound Γ′ Δ xs Ts t T
 widen-under {ops} {lim} {lim′} {Γ′ = Γ′} {t = t} le g h = grow-under ops lim lim′ le Any h (each (λ n. tt) t) Γ′ g
+
+-- what holds of each name of a term holds of each in a weaker form
+mutual
+  pub map-held : {Q R : Name → Type 0} → ((n : Name) → Q n → R n) → (v : Value) → Each-held Q v → Each-held R v
+  map-held f the-unit h = tt
+  map-held f (bit-of b) h = tt
+  map-held f (int-of k) h = tt
+  map-held f (handle-of k) h = f (handle k) h
+  map-held f (tuple-of vs) h = map-held-all f vs h
+
+  pub map-held-all : {Q R : Name → Type 0} → ((n : Name) → Q n → R n) → (vs : Values) → Each-held-all Q vs → Each-held-all R vs
+  map-held-all f no-values h = tt
+  map-held-all f (v ∷ᵛ vs) h = (map-held f v (h .0), map-held-all f vs (h .1))
+
+pub map-names : {Q R : Name → Type 0} → ((n : Name) → Q n → R n) → (ns : List Name) → Each-name Q ns → Each-name R ns
+map-names f [] h = tt
+map-names f (n ∷ ns) h = (f n (h .0), map-names f ns (h .1))
+
+mutual
+  pub map-each : {Q R : Name → Type 0} → ((n : Name) → Q n → R n) → (t : Term) → Each Q t → Each R t
+  map-each f (give p v) h = map-held f v h
+  map-each f (done v) h = map-held f v h
+  map-each f (name p n) h = f n h
+  map-each f (build p g ts) h = map-parts f ts h
+  map-each f (bind p xs e t) h = (map-each f e (h .0), map-each f t (h .1))
+  map-each f (mut p xs e t) h = (map-each f e (h .0), map-each f t (h .1))
+  map-each f (set p ns e t) h = (map-names f (names ns) (h .0), map-each f e (h .1), map-each f t (h .2))
+  map-each f (using-in p xs t) h = map-each f t h
+  map-each f (if-else p c t u) h = (map-each f c (h .0), map-each f t (h .1), map-each f u (h .2))
+
+  pub map-parts : {Q R : Name → Type 0} → ((n : Name) → Q n → R n) → (ts : Terms) → Each-part Q ts → Each-part R ts
+  map-parts f no-terms h = tt
+  map-parts f (t ∷ˢ ts) h = (map-each f t (h .0), map-parts f ts (h .1))

@@ -6,7 +6,7 @@ use mathlib.Core.Option.{Option, none, some}
 use Prim.Native.Nat.{ℕ, _+_, _*_}
 use native.Mathlib.Omega.{arith}
 use lib.ListN.{length}
-use Rattle.calculus.specs.Peak.{handles, handles-all, without, without-all, outer, outer-all, spent-leaves, Regular}
+use Rattle.calculus.specs.Peak.{handles-all, without, without-all, outer, outer-all, spent-leaves, Regular, handles}
 use Rattle.calculus.specs.Syntax.{Ty, unit, bit, int, qbit, tuple, Tys, no-types, _∷ᵗ_, qbit-leaves, qbit-leaves-all, linear, some-linear, Duplicable, Name, var, entry, handle, is, Value}
 use Rattle.calculus.specs.Syntax.{the-unit, bit-of, int-of, handle-of, tuple-of, Values, no-values, _∷ᵛ_, typeOf, typesOf, names, Term, Terms, Op}
 use Rattle.calculus.specs.Rules.{Uses, once, spent, held, held-all, Binding, fixed, settable, type, Scope, extend, qbits, Has, has-give, has-done, has-name, has-build, has-bind, has-mut}

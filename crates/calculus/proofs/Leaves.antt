@@ -10,7 +10,7 @@ use Rattle.calculus.specs.Peak.{without, without-all, outer, bound-leaves, nam
 use Rattle.calculus.specs.Syntax.{Ty, Tys, qbit-leaves, linear, Duplicable, Name, var, entry, handle, is, Term, Op}
 use Rattle.calculus.specs.Rules.{Uses, once, Divides, spent, Binding, settable, type, Scope, extend, Under}
 use Rattle.calculus.proofs.Names.{never, is-eq, is-refl, is-flip}
-use Rattle.calculus.proofs.Nets.{count, bound-linear, is-linear, plain-leaves, regular-extend, Bound-well, uses-counted-under}
+use Rattle.calculus.proofs.Linear.{count, bound-linear, is-linear, plain-leaves, regular-extend, Bound-well, uses-counted-under}
 
 -- a name that is bound adds its leaves as often as it is used
 extend-name : (Γ : Scope) (x : ℕ) (b : Binding) (n : Name) → is (var x) n ≡ false → name-leaves (extend Γ x b) n ≡ name-leaves Γ n
@@ -37,7 +37,7 @@ spent-extend Γ x b (n ∷ ns) = go (is (var x) n) refl (spent-extend Γ x b ns)
 
     go : (c : Bool) → is (var x) n ≡ c → spent-leaves (extend Γ x b) ns ≡ spent-leaves Γ (without x ns) + count (var x) ns * qbit-leaves (type b) →
         name-leaves (extend Γ x b) n + spent-leaves (extend Γ x b) ns ≡
-          spent-leaves Γ (cond c (without x ns) (n ∷ without x ns)) + (once n (var x) + count (var x) ns) * qbit-leaves (type b)
+        spent-leaves Γ (cond c (without x ns) (n ∷ without x ns)) + (once n (var x) + count (var x) ns) * qbit-leaves (type b)
     go true q r = let h = here q in rw (h .0, h .1) (add 0 _ _ _ _ r)
     go false q r = rw (extend-name Γ x b n q, there q) (skip _ _ _ _ _ r)
 

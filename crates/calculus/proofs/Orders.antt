@@ -1,4 +1,4 @@
--- What orders do to the live handles.
+-- What orders do to the live handles, and to the count.
 use lib.Dec.{T}
 use mathlib.Core.Path.{_≡_, refl, sym, _∙_, ap, subst, fun-ext}
 use mathlib.Core.List.{[], _∷_, map}
@@ -9,7 +9,7 @@ use lib.Dec.{eqb, ltb, ltb→lt, nltb→le}
 use borrow.Author.Tests.{eqb-true, eqb-false, ne-eqb}
 use Rattle.machine.specs.Model.{Model, ordered, Makes, Prepares, Measures, tally, with}
 use Rattle.machine.specs.declared.order.Order.the-variants.{Prepared, Applied, Measured}
-use Rattle.calculus.specs.Runs.{live-names, live-count}
+use Rattle.calculus.specs.Runs.{live-names, live-count, Orders-counted}
 use Rattle.calculus.specs.Room.{moved}
 use Rattle.calculus.specs.Syntax.{Name, var, entry, handle}
 use Rattle.calculus.specs.Rules.{once}
@@ -112,3 +112,7 @@ made-count (Measured h b ∷ os) m n (k, d, r) = made-count os k n r ∙ ap (mov
 pub made-capacity : (ev : Event) (m n : Model) → Makes m (map ordered ev) n → n .capacity ≡ m .capacity
 made-capacity [] m n q = ap (λ (k : Model). k .capacity) (sym q)
 made-capacity (o ∷ os) m n (k, d, r) = made-capacity os k n r ∙ d .0 .capacity
+
+pub orders-counted : Orders-counted
+orders-counted [] m n q = ap (λ (k : Model). k .count) (sym q) ∙ omega (arith, m .small)
+orders-counted (o ∷ os) m n (k, d, r) = orders-counted os k n r ∙ omega (arith, d .0 .count)

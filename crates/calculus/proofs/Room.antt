@@ -11,7 +11,7 @@ use Rattle.calculus.specs.Steps.{by-entry, given, Table, Event, prepares, hand
 use Rattle.calculus.specs.Steps.{step-build, step-bind-in, step-bind, step-mut-in, step-mut, step-set-in, step-set, step-using, step-if-in, step-if, Step-part, step-first, step-later}
 use Rattle.calculus.specs.Steps.{chooses, chooses-part}
 use Rattle.calculus.proofs.Names.{never}
-use Rattle.calculus.proofs.Ends.{le-top, le-top-all, puts-end, puts-top, done-end, pick, form-rise, rise, rise-all}
+use Rattle.calculus.proofs.Live.{le-top, le-top-all, puts-end, puts-top, done-end, pick, form-rise, rise, rise-all}
 
 pub prepares-move : (hs : List ℕ) (b : ℕ) → moved (prepares hs) b ≡ length hs + b
 prepares-move [] b = omega arith
@@ -114,4 +114,11 @@ module _ (ops : List Op) (o : Bodies) (k : Of-bodies ops o) where
 pub stays-in-room : Room
 stays-in-room ops o k t t′ μ μ′ p es ev s b =
     let r = room ops o k s b in
-    (r .top-same, omega (arith, r .top-falls, le-top o t b), le-top o t′ (moved ev b))
+    let l = le-top o t′ (moved ev b) in
+    record {
+      exact = r .top-same;
+      stays = λ c i. omega (arith, r .top-same c, i, l);
+      falls = r .top-falls;
+      before = le-top o t b;
+      after = omega (arith, r .top-falls, l);
+    }
