@@ -9,58 +9,46 @@ ghost use Rattle.calculus.specs.Bounds.{Step-within, Run-within};
 ghost use Rattle.calculus.specs.Laws.{Preservation, Unnamed-entries, Progress, Sends, Steps-fall, Ends, Counted, Determined};
 
 // A step keeps the type of what is left, and its linear names change as the live handles do; entries that are not named make no difference.
-pub fn preservation_stands() -> u8
+pub fn preservation_stands()
     ensures kept { λ _. ⌜ Preservation ⌝ }
     ensures entries { λ _. ⌜ Unnamed-entries ⌝ }
-{
-    0
-}
+{}
 
 // Whatever the machine answers, what is left is finished or has a step; and the orders that a step sends.
-pub fn progress_stands() -> u8
+pub fn progress_stands()
     ensures goes { λ _. ⌜ Progress ⌝ }
     ensures sends { λ _. ⌜ Sends ⌝ }
-{
-    0
-}
+{}
 
 // A step takes one of the steps that are left, an if's at least one; none are left exactly when all is finished.
-pub fn steps_stand() -> u8
+pub fn steps_stand()
     ensures fall { λ _. ⌜ Steps-fall ⌝ }
     ensures end { λ _. ⌜ Ends ⌝ }
     ensures counted { λ _. ⌜ Counted ⌝ }
-{
-    0
-}
+{}
 
 // From b live handles, the most that are live from here on never rises by a step, and each prepare finds room within it.
-pub fn room_stands() -> u8
+pub fn room_stands()
     ensures room { λ _. ⌜ Room ⌝ }
     ensures found { λ _. ⌜ Bodies-found ⌝ }
-{
-    0
-}
+{}
 
 // What is left that is typed in exactly the live handles, with room for the most that it needs, goes on whatever the machine answers, and the machine accepts every order;
 // a step leaves it so. Along every run of a listing with a type, on a machine with enough room, this holds, and steps and live handles stay within the need.
-pub fn runs_stand() -> u8
+pub fn runs_stand()
     ensures safe { λ _. ⌜ Safety ⌝ }
     ensures kept { λ _. ⌜ Safety-kept ⌝ }
     ensures sound { λ _. ⌜ Soundness ⌝ }
     ensures counted { λ _. ⌜ Orders-counted ⌝ }
-{
-    0
-}
+{}
 
 // The machine's answers and the new entries settle each step.
-pub fn determinism_stands() -> u8
+pub fn determinism_stands()
     ensures { λ _. ⌜ Determined ⌝ }
-{
-    0
-}
+{}
 
 // Terms have at most one type, values the leaves of theirs; substitution and weakening keep it; a linear name that is not given does not occur.
-pub fn typing_stands() -> u8
+pub fn typing_stands()
     ensures once { λ _. ⌜ One-type ⌝ }
     ensures leaves { λ _. ⌜ Leaves-counted ⌝ }
     ensures plain { λ _. ⌜ No-handle ⌝ }
@@ -68,12 +56,10 @@ pub fn typing_stands() -> u8
     ensures entries { λ _. ⌜ Renaming ⌝ }
     ensures wider { λ _. ⌜ Weakening ⌝ }
     ensures absent { λ _. ⌜ Absent ⌝ }
-{
-    0
-}
+{}
 
 // Net and peak, as the language words them, are what the live handles do: the net is their change, the peak the most that are added.
-pub fn need_stands() -> u8
+pub fn need_stands()
     ensures net { λ _. ⌜ Net-is ⌝ }
     ensures peak { λ _. ⌜ Peak-is ⌝ }
     ensures branches { λ _. ⌜ Same-net ⌝ }
@@ -81,31 +67,23 @@ pub fn need_stands() -> u8
     ensures found { λ _. ⌜ Peaks-found ⌝ }
     ensures listing { λ _. ⌜ Peak-of-listing ⌝ }
     ensures left { λ _. ⌜ Peak-of-left ⌝ }
-{
-    0
-}
+{}
 
 // Live handles plus the peak of what is left never rise along a run, so they never pass the peak of the listing.
-pub fn bounds_stand() -> u8
+pub fn bounds_stand()
     ensures step { λ _. ⌜ Step-within ⌝ }
     ensures run { λ _. ⌜ Run-within ⌝ }
-{
-    0
-}
+{}
 
 // Net and peak found from the pieces of a term alone, without its types, are those of the types.
-pub fn pieces_stand() -> u8
+pub fn pieces_stand()
     ensures net { λ _. ⌜ Net-by-pieces ⌝ }
     ensures peak { λ _. ⌜ Peak-by-pieces ⌝ }
     ensures found { λ _. ⌜ Pieces-found ⌝ }
     ensures need { λ _. ⌜ Need-by-pieces ⌝ }
-{
-    0
-}
+{}
 
 // Listings with a type and listings without one, their need, and what they come to.
-pub fn examples_stand() -> u8
+pub fn examples_stand()
     ensures { λ _. ⌜ Worked ⌝ }
-{
-    0
-}
+{}

@@ -28,9 +28,10 @@ use Rattle.grammar.specs.declared.parse.Stop.{Stop}
 use Rattle.grammar.specs.declared.parse.Stop.the-variants as stop
 use Rattle.grammar.specs.declared.parse.Read.{Read}
 use Rattle.grammar.specs.Arena.{Node, At, Names-at, no-names-at, Stands, Parts-at, no-parts-at, parts-at, Types-at, no-types-at, types-at, Type-at}
-use Rattle.grammar.specs.Reading.{Quiet, Grows, Progress, Halts, Misses, Answers, Expected, Is-word, Is-name, keyword, Made, nodes-of, parts-of, Name-read, More-names-read, Term-read, Plain-read, Terms-read, More-read, Types-read, More-types-read}
+use Rattle.grammar.specs.Parsing.{Grows, nodes-of, parts-of}
+use Rattle.grammar.specs.Reading.{Quiet, Progress, Halts, Misses, Answers, Expected, Is-word, Is-name, keyword, Made, Name-read, More-names-read, Term-read, Plain-read, Terms-read, More-read, Types-read, More-types-read}
 use Rattle.grammar.proofs.Growth.{Path, begins, goes, reads, turns, adds, ends, fails, misses, lacks, base-le, grows-none, grows-then, quiet-all, quiet-then}
-use Rattle.grammar.proofs.Arenas.{names-join}
+use Rattle.grammar.proofs.Arenas.{names-join, within, type-within, parts-wider, types-wider}
 use Rattle.grammar.proofs.Productions.{names-none, names-next, more-there, more-types-there}
 
 pub sized : {X : Type 0} (v : Vec X Global) → vec-len v ≡ length (vec-items v)
@@ -51,10 +52,10 @@ pub gains : {x y : Want} {ws : List Word} {at i j b : ℕ} {ys : List Want} {t u
 gains {j = j} {b = b} p q h = record { way = w.on (p .way) (q .way); base = omega (arith, p .base); grows = grows-then (p .grows) h (b + 1) j (omega arith) }
 
 -- A node was added for what was read.
-pub finish : {Y : Type 0} (R : List Word → Y → List Word → Type 0) (S : List Node → List ℕ → ℕ → Y → Type 0) {x : Want} {ws : List Word} {at i b : ℕ} {t u v : Tree} (n : Node) (r : Result Read Stop) → Path x ws at [] i t u b → at < b → Quiet t u → Made n i u v r → ((k : ℕ) → At (nodes-of v) k n → Grows u v 0 1 → (y : Y) × R (drop at ws) y (drop i ws) × S (nodes-of v) (parts-of v) k y) → Answers (λ q. q .next) x (λ q. (y : Y) × R (drop at ws) y (drop (q .next) ws) × S (nodes-of v) (parts-of v) (q .node) y) Quiet ws at t v r
+pub finish : {Y : Type 0} (R : List Word → Y → List Word → Type 0) (S : List Node → List ℕ → ℕ → Y → Type 0) {x : Want} {ws : List Word} {at i b : ℕ} {t u v : Tree} (n : Node) (r : Result Read Stop) → Path x ws at [] i t u b → at < b → Quiet t u → Made n i u v r → ((k : ℕ) → k ≡ length (nodes-of u) → At (nodes-of v) k n → Grows u v 0 1 → (y : Y) × R (drop at ws) y (drop i ws) × S (nodes-of v) (parts-of v) k y) → Answers (λ q. q .next) x (λ q. (y : Y) × R (drop at ws) y (drop (q .next) ws) × S (nodes-of v) (parts-of v) (q .node) y) Quiet ws at t v r
 finish {Y} R S {x} {ws} {at} {i} {t = t} {v = v} n (Ok q) p l o h f =
     subst (λ j. Progress x ws at [] j t v × (at < j) × ((y : Y) × R (drop at ws) y (drop j ws) × S (nodes-of v) (parts-of v) (q .node) y) × Quiet t v) (sym (h .1))
-    (ends (adds at p (h .0 .0) (omega arith) l), omega (arith, l, base-le p), f (q .node) (h .0 .3) (h .0 .0), quiet-then o (record { parameters = h .0 .5; operations = h .0 .6 }))
+    (ends (adds at p (h .0 .0) (omega arith) l), omega (arith, l, base-le p), f (q .node) (h .0 .1) (h .0 .3) (h .0 .0), quiet-then o (record { parameters = h .0 .5; operations = h .0 .6 }))
 finish R S n (Err e) p l o h f = lacks e p l h
 
 -- A function hands on what another answers.
@@ -110,17 +111,27 @@ module _ (ws : List Word) (at : ℕ) (l : at < length ws) {x : Text} {i : ℕ} (
   call-empty e f = way-to (at + 3) (w.on (call-way e) (w.kind-word ws m.arguments (at + 2) Close [] f (λ y j. refl))) (omega arith)
 
 -- The tables of parts.
-pub no-parts : {ns : List Node} {ps : List ℕ} (f e : ℕ) → f ≡ e → Parts-at ns ps f e s.no-trees
-no-parts {ns} {ps} f e q = subst (λ n. Parts-at ns ps f n s.no-trees) q no-parts-at
+pub no-parts : {ns : List Node} {ps : List ℕ} (f e : ℕ) → f ≡ e → Parts-at ns ps (length ns) f e s.no-trees
+no-parts {ns} {ps} f e q = subst (λ n. Parts-at ns ps (length ns) f n s.no-trees) q no-parts-at
 
-pub more-parts : {ns : List Node} {ps : List ℕ} {f e i : ℕ} {y : s.Tree} {ys : s.Trees} (n : ℕ) → At ps e i → Stands ns ps i y → Parts-at ns ps f e ys → n ≡ e + 1 → Parts-at ns ps f n (s._∷ᵗ_ y ys)
-more-parts {ns} {ps} {f} {y = y} {ys = ys} n a h k q = subst (λ e. Parts-at ns ps f e (s._∷ᵗ_ y ys)) (sym q) (parts-at a h k)
+pub more-parts : {ns : List Node} {ps : List ℕ} {b f e i : ℕ} {y : s.Tree} {ys : s.Trees} (n : ℕ) → At ps e i → Stands ns ps i y → b ≤ length ns → Parts-at ns ps b f e ys → n ≡ e + 1 → Parts-at ns ps (length ns) f n (s._∷ᵗ_ y ys)
+more-parts {ns} {ps} {f = f} {y = y} {ys = ys} n a h l k q = subst (λ e. Parts-at ns ps (length ns) f e (s._∷ᵗ_ y ys)) (sym q) (parts-at a (within h) h (parts-wider (length ns) l k))
 
-pub no-types : {ns : List Node} {ps : List ℕ} (f e : ℕ) → f ≡ e → Types-at ns ps f e s.no-types
-no-types {ns} {ps} f e q = subst (λ n. Types-at ns ps f n s.no-types) q no-types-at
+pub no-types : {ns : List Node} {ps : List ℕ} (f e : ℕ) → f ≡ e → Types-at ns ps (length ns) f e s.no-types
+no-types {ns} {ps} f e q = subst (λ n. Types-at ns ps (length ns) f n s.no-types) q no-types-at
 
-pub more-types : {ns : List Node} {ps : List ℕ} {f e i : ℕ} {τ : s.Written} {τs : s.Writtens} (n : ℕ) → At ps e i → Type-at ns ps i τ → Types-at ns ps f e τs → n ≡ e + 1 → Types-at ns ps f n (s._∷ʷ_ τ τs)
-more-types {ns} {ps} {f} {τ = τ} {τs = τs} n a h k q = subst (λ e. Types-at ns ps f e (s._∷ʷ_ τ τs)) (sym q) (types-at a h k)
+pub more-types : {ns : List Node} {ps : List ℕ} {b f e i : ℕ} {τ : s.Written} {τs : s.Writtens} (n : ℕ) → At ps e i → Type-at ns ps i τ → b ≤ length ns → Types-at ns ps b f e τs → n ≡ e + 1 → Types-at ns ps (length ns) f n (s._∷ʷ_ τ τs)
+more-types {ns} {ps} {f = f} {τ = τ} {τs = τs} n a h l k q = subst (λ e. Types-at ns ps (length ns) f e (s._∷ʷ_ τ τs)) (sym q) (types-at a (type-within h) h (types-wider (length ns) l k))
+
+-- The node k that is added stands after all others.
+pub below : {a k n : ℕ} → k ≡ n → a < n → a < k
+below {a} e l = subst (λ i. a < i) (sym e) l
+
+pub parts-to : {ns : List Node} {ps : List ℕ} {f e k n : ℕ} {ys : s.Trees} → k ≡ n → Parts-at ns ps n f e ys → Parts-at ns ps k f e ys
+parts-to {ns} {ps} {f} {e} {ys = ys} q h = subst (λ b. Parts-at ns ps b f e ys) (sym q) h
+
+pub types-to : {ns : List Node} {ps : List ℕ} {f e k n : ℕ} {τs : s.Writtens} → k ≡ n → Types-at ns ps n f e τs → Types-at ns ps k f e τs
+types-to {ns} {ps} {f} {e} {τs = τs} q h = subst (λ b. Types-at ns ps b f e τs) (sym q) h
 
 -- The names that a table of nodes ends with.
 pub one-name-at : {ns : List Node} {l i e : ℕ} (n : Rattle.grammar.specs.declared.tree.Name.Name) (w : s.Identifier) → i ≡ l → e ≡ l + 1 → At ns i (Rattle.grammar.specs.Arena.node (n .place) (Rattle.grammar.specs.declared.tree.Construct.the-variants.Named n)) → Rattle.grammar.specs.Arena.Spells n w → Names-at ns l e (w ∷ [])

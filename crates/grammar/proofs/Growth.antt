@@ -16,7 +16,8 @@ use Rattle.syntax.proofs.Ways.{through, on, stops}
 use Rattle.grammar.specs.declared.tree.Tree.{Tree}
 use Rattle.grammar.specs.declared.parse.Stop.{Stop}
 use Rattle.grammar.specs.declared.parse.Stop.the-variants as stop
-use Rattle.grammar.specs.Reading.{Quiet, Kept, Grew, Grows, Spare, Room, Progress, Halts, Misses, Lacks}
+use Rattle.grammar.specs.Parsing.{Kept, Grew, Grows, Spare, Room}
+use Rattle.grammar.specs.Reading.{Quiet, Progress, Halts, Misses, Lacks}
 
 pub kept-then : {X : Type 0} {xs ys zs : List X} → Kept xs ys → Kept ys zs → Kept xs zs
 kept-then a b = record { longer = omega (arith, a .longer, b .longer); same = λ i d l. b .same i d (omega (arith, a .longer)) ∙ a .same i d l }

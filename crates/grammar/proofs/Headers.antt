@@ -29,7 +29,8 @@ use Rattle.grammar.specs.declared.parse.Stop.the-variants as stop
 use Rattle.grammar.specs.declared.parse.GrammarFault.{GrammarFault}
 use Rattle.grammar.specs.declared.parse.GrammarFault.the-variants as fault
 use Rattle.grammar.specs.Arena.{Node, At, node, Spells, Names-at, no-names-at, names-at, Type-at, Stands, Parameters-at, no-parameters-at, parameters-at, Operation-at, Operations-at, no-operations-at, operations-at}
-use Rattle.grammar.specs.Reading.{Kept, Term-read, Signature-read, Grew, Grows, Spare, Room, Progress, Halts, Lacks, Expected, Few, Added, Parameters-named, Parameter-read, More-parameters-read, Parameters-read, Operation-read, Listing-read, Stands-for, Operations-from, Parsed, nodes-of, parts-of, parameters-of, operations-of, place-or}
+use Rattle.grammar.specs.Parsing.{Kept, Grew, Grows, Spare, Room, Stands-for, Operations-from, Parsed, nodes-of, parts-of, parameters-of, operations-of, place-or}
+use Rattle.grammar.specs.Reading.{Term-read, Signature-read, Progress, Halts, Lacks, Expected, Few, Added, Parameters-named, Parameter-read, More-parameters-read, Parameters-read, Operation-read, Listing-read}
 use Rattle.grammar.proofs.Growth.{Path, begins, goes, reads, turns, ends, fails, misses, grew-none, grew-then, kept-all, kept-then, grows-none, grows-then}
 use Rattle.grammar.proofs.Arenas.{parameters-kept, at-kept, names-kept, parameters-join, operations-join, operation-kept}
 use Rattle.grammar.proofs.Productions.{running, no-more-parameters, more-parameters-there, no-parameters-there}

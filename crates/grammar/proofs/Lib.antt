@@ -1,6 +1,6 @@
 mod Tests
-mod Growth
-mod Arenas
-mod Productions
-mod Exits
-mod Headers
+pub mod Growth
+pub mod Arenas
+pub mod Productions
+pub mod Exits
+pub mod Headers

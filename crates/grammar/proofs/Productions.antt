@@ -12,7 +12,8 @@ use Rattle.syntax.specs.Grammar as g
 use Rattle.syntax.specs.Grammar.{Text, identifier}
 use Rattle.grammar.specs.declared.tree.Binder as binders
 use Rattle.grammar.specs.Arena.{binder-of}
-use Rattle.grammar.specs.Reading.{Is-word, Is-name, place-or, keyword}
+use Rattle.grammar.specs.Parsing.{place-or}
+use Rattle.grammar.specs.Reading.{Is-word, Is-name, keyword}
 
 -- the place of a word that stands first
 its-place : {A B : List Word} {x : Text} {i : ℕ} {k : Kind} (q : ℕ) → q ≡ place-or 0 A → A ≡ Fixed x i k ∷ B → i ≡ q

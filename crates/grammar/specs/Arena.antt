@@ -58,33 +58,33 @@ pub data Names-at (ns : List Node) : ℕ → ℕ → List s.Identifier → Type 
   names-at : {i e : ℕ} {n : names.Name} {w : s.Identifier} {ws : List s.Identifier} → At ns i (node (n .place) (constructs.the-variants.Named n)) → Spells n w → Names-at ns (i + 1) e ws → Names-at ns i e (w ∷ ws)
 
 mutual
-  -- the node i is that type
+  -- the node i is that type; the nodes of its parts stand before it
   pub data Type-at (ns : List Node) (ps : List ℕ) : ℕ → s.Written → Type 0 where
     basic-at : {i p : ℕ} {b : basics.Basic} → At ns i (node p (constructs.the-variants.BasicType b)) → Type-at ns ps i (s.basic p (basic-of b))
-    tuple-type-at : {i p : ℕ} {r : ranges.Range} {τs : s.Writtens} → At ns i (node p (constructs.the-variants.TupleType r)) → Types-at ns ps (r .first) (r .end) τs → Type-at ns ps i (s.tuple-type p τs)
+    tuple-type-at : {i p : ℕ} {r : ranges.Range} {τs : s.Writtens} → At ns i (node p (constructs.the-variants.TupleType r)) → Types-at ns ps i (r .first) (r .end) τs → Type-at ns ps i (s.tuple-type p τs)
 
-  -- the parts from f to e, e left out, are the nodes of those types in reverse order
-  pub data Types-at (ns : List Node) (ps : List ℕ) : ℕ → ℕ → s.Writtens → Type 0 where
-    no-types-at : {f : ℕ} → Types-at ns ps f f s.no-types
-    types-at : {f e i : ℕ} {τ : s.Written} {τs : s.Writtens} → At ps e i → Type-at ns ps i τ → Types-at ns ps f e τs → Types-at ns ps f (e + 1) (s._∷ʷ_ τ τs)
+  -- the parts from f to e, e left out, are the nodes of those types in reverse order, all below b
+  pub data Types-at (ns : List Node) (ps : List ℕ) : ℕ → ℕ → ℕ → s.Writtens → Type 0 where
+    no-types-at : {b f : ℕ} → Types-at ns ps b f f s.no-types
+    types-at : {b f e i : ℕ} {τ : s.Written} {τs : s.Writtens} → At ps e i → i < b → Type-at ns ps i τ → Types-at ns ps b f e τs → Types-at ns ps b f (e + 1) (s._∷ʷ_ τ τs)
 
 mutual
-  -- the node i is that term
+  -- the node i is that term; the nodes of its parts stand before it
   pub data Stands (ns : List Node) (ps : List ℕ) : ℕ → s.Tree → Type 0 where
     constant-at : {i p : ℕ} {c : constants.Constant} → At ns i (node p (constructs.the-variants.Constant c)) → Stands ns ps i (s.constant p (constant-of c))
     use-at : {i : ℕ} {n : names.Name} {w : s.Identifier} → At ns i (node (n .place) (constructs.the-variants.Use n)) → Spells n w → Stands ns ps i (s.named w)
-    call-at : {i : ℕ} {n : names.Name} {w : s.Identifier} {r : ranges.Range} {ts : s.Trees} → At ns i (node (n .place) (constructs.the-variants.Built (forms.the-variants.Call n) r)) → Spells n w → Parts-at ns ps (r .first) (r .end) ts → Stands ns ps i (s.call w ts)
-    meas-at : {i p : ℕ} {r : ranges.Range} {t : s.Tree} → At ns i (node p (constructs.the-variants.Built forms.the-variants.Meas r)) → Parts-at ns ps (r .first) (r .end) (s._∷ᵗ_ t s.no-trees) → Stands ns ps i (s.meas p t)
-    gate-at : {i p : ℕ} {g : gates.Gate} {r : ranges.Range} {ts : s.Trees} → At ns i (node p (constructs.the-variants.Built (forms.the-variants.Gate g) r)) → Parts-at ns ps (r .first) (r .end) ts → Stands ns ps i (s.apply p g ts)
-    tuple-at : {i p : ℕ} {r : ranges.Range} {ts : s.Trees} → At ns i (node p (constructs.the-variants.Built forms.the-variants.Tuple r)) → Parts-at ns ps (r .first) (r .end) ts → Stands ns ps i (s.tuple p ts)
-    bind-at : {i p a z : ℕ} {b : binders.Binder} {r : ranges.Range} {x : s.Pattern} {t u : s.Tree} → At ns i (node p (constructs.the-variants.Bind b r a z)) → Names-at ns (r .first) (r .end) (identifiers x) → Stands ns ps a t → Stands ns ps z u → Stands ns ps i (s.bind p (binder-of b) x t u)
-    using-at : {i p z : ℕ} {r : ranges.Range} {x : s.Pattern} {t : s.Tree} → At ns i (node p (constructs.the-variants.Using r z)) → Names-at ns (r .first) (r .end) (identifiers x) → Stands ns ps z t → Stands ns ps i (s.prepare p x t)
-    if-at : {i p a y z : ℕ} {t u v : s.Tree} → At ns i (node p (constructs.the-variants.If a y z)) → Stands ns ps a t → Stands ns ps y u → Stands ns ps z v → Stands ns ps i (s.choose p t u v)
+    call-at : {i : ℕ} {n : names.Name} {w : s.Identifier} {r : ranges.Range} {ts : s.Trees} → At ns i (node (n .place) (constructs.the-variants.Built (forms.the-variants.Call n) r)) → Spells n w → Parts-at ns ps i (r .first) (r .end) ts → Stands ns ps i (s.call w ts)
+    meas-at : {i p : ℕ} {r : ranges.Range} {t : s.Tree} → At ns i (node p (constructs.the-variants.Built forms.the-variants.Meas r)) → Parts-at ns ps i (r .first) (r .end) (s._∷ᵗ_ t s.no-trees) → Stands ns ps i (s.meas p t)
+    gate-at : {i p : ℕ} {g : gates.Gate} {r : ranges.Range} {ts : s.Trees} → At ns i (node p (constructs.the-variants.Built (forms.the-variants.Gate g) r)) → Parts-at ns ps i (r .first) (r .end) ts → Stands ns ps i (s.apply p g ts)
+    tuple-at : {i p : ℕ} {r : ranges.Range} {ts : s.Trees} → At ns i (node p (constructs.the-variants.Built forms.the-variants.Tuple r)) → Parts-at ns ps i (r .first) (r .end) ts → Stands ns ps i (s.tuple p ts)
+    bind-at : {i p a z : ℕ} {b : binders.Binder} {r : ranges.Range} {x : s.Pattern} {t u : s.Tree} → At ns i (node p (constructs.the-variants.Bind b r a z)) → Names-at ns (r .first) (r .end) (identifiers x) → a < i → Stands ns ps a t → z < i → Stands ns ps z u → Stands ns ps i (s.bind p (binder-of b) x t u)
+    using-at : {i p z : ℕ} {r : ranges.Range} {x : s.Pattern} {t : s.Tree} → At ns i (node p (constructs.the-variants.Using r z)) → Names-at ns (r .first) (r .end) (identifiers x) → z < i → Stands ns ps z t → Stands ns ps i (s.prepare p x t)
+    if-at : {i p a y z : ℕ} {t u v : s.Tree} → At ns i (node p (constructs.the-variants.If a y z)) → a < i → Stands ns ps a t → y < i → Stands ns ps y u → z < i → Stands ns ps z v → Stands ns ps i (s.choose p t u v)
 
-  -- the parts from f to e, e left out, are the nodes of those terms in reverse order
-  pub data Parts-at (ns : List Node) (ps : List ℕ) : ℕ → ℕ → s.Trees → Type 0 where
-    no-parts-at : {f : ℕ} → Parts-at ns ps f f s.no-trees
-    parts-at : {f e i : ℕ} {t : s.Tree} {ts : s.Trees} → At ps e i → Stands ns ps i t → Parts-at ns ps f e ts → Parts-at ns ps f (e + 1) (s._∷ᵗ_ t ts)
+  -- the parts from f to e, e left out, are the nodes of those terms in reverse order, all below b
+  pub data Parts-at (ns : List Node) (ps : List ℕ) : ℕ → ℕ → ℕ → s.Trees → Type 0 where
+    no-parts-at : {b f : ℕ} → Parts-at ns ps b f f s.no-trees
+    parts-at : {b f e i : ℕ} {t : s.Tree} {ts : s.Trees} → At ps e i → i < b → Stands ns ps i t → Parts-at ns ps b f e ts → Parts-at ns ps b f (e + 1) (s._∷ᵗ_ t ts)
 
 -- the entries from i to e, e left out, of the table of parameters are those in order
 pub data Parameters-at (ns : List Node) (ps : List ℕ) (xs : List parameters.Parameter) : ℕ → ℕ → List s.Parameter → Type 0 where

@@ -1,4 +1,4 @@
--- What the functions that read a listing answer: where they end and what their tables then stand for, the word that does not fit, or that the tables had too little room.
+-- What the functions that read the parts of a listing answer.
 use mathlib.Core.Path.{_≡_}
 use mathlib.Core.List.{List, [], _∷_, map}
 use Prim.Native.Nat.{ℕ, _+_, _<_, _≤_}
@@ -32,49 +32,8 @@ use Rattle.grammar.specs.declared.parse.Read.{Read}
 use Rattle.grammar.specs.declared.parse.Listed.{Listed}
 use Rattle.grammar.specs.declared.parse.PatternRead.{PatternRead}
 use Rattle.grammar.specs.declared.parse.ParametersRead.{ParametersRead}
-use Rattle.grammar.specs.declared.parse.GrammarFault.{GrammarFault}
-use Rattle.grammar.specs.declared.parse.GrammarFault.the-variants as fault
 use Rattle.grammar.specs.Arena.{At, node, Spells, identifiers, Names-at, Type-at, Types-at, Stands, Parts-at, Parameters-at, Operation-at, Operations-at}
-
-abbrev pub nodes-of : Tree → List entries.Node
-nodes-of t = vec-items (t .nodes)
-
-abbrev pub parts-of : Tree → List ℕ
-parts-of t = vec-items (t .parts)
-
-abbrev pub parameters-of : Tree → List parameters.Parameter
-parameters-of t = vec-items (t .parameters)
-
-abbrev pub operations-of : Tree → List operations.Operation
-operations-of t = vec-items (t .operations)
-
--- no entry is lost or altered
-pub record Kept {X : Type 0} (xs ys : List X) : Type 0 where
-  pub longer : length xs ≤ length ys
-  pub same : (i : ℕ) (d : X) → i < length xs → getD ys i d ≡ getD xs i d
-
--- A table has grown by j less i entries at most, and has no less room.
-pub record Grew {X : Type 0} (v w : Vec X Global) (i j : ℕ) : Type 0 where
-  pub kept : Kept (vec-items v) (vec-items w)
-  pub few : length (vec-items w) + i ≤ length (vec-items v) + j
-  pub room : vec-cap v ≤ vec-cap w
-
-pub record Grows (t u : Tree) (i j : ℕ) : Type 0 where
-  pub nodes : Grew (t .nodes) (u .nodes) i j
-  pub parts : Grew (t .parts) (u .parts) i j
-  pub parameters : Grew (t .parameters) (u .parameters) i j
-  pub operations : Grew (t .operations) (u .operations) i j
-
--- a table has room for j less i more entries
-abbrev pub Spare : {X : Type 0} → Vec X Global → ℕ → ℕ → Type 0
-Spare v i j = length (vec-items v) + j ≤ vec-cap v + i
-
--- each table has room for j less i more entries
-pub record Room (t : Tree) (i j : ℕ) : Type 0 where
-  pub nodes : Spare (t .nodes) i j
-  pub parts : Spare (t .parts) i j
-  pub parameters : Spare (t .parameters) i j
-  pub operations : Spare (t .operations) i j
+use Rattle.grammar.specs.Parsing.{nodes-of, parts-of, parameters-of, operations-of, Kept, Grew, Grows, Spare, Room, place-or, Operations-from, Stands-for}
 
 -- What was wanted at the word `at` has come to the word i, where the things ys are still wanted, and the tables have grown by no more entries than words were read.
 pub record Progress (x : Want) (ws : List Word) (at : ℕ) (ys : List Want) (i : ℕ) (t u : Tree) : Type 0 where
@@ -151,14 +110,6 @@ Made n next t u (Err e) = Lacks (t .nodes) e
 abbrev pub Built-of : ℕ → forms.Form → Listed → Tree → Tree → Result Read Stop → Type 0
 Built-of p f l t u r = Made (node p (constructs.the-variants.Built f (record { first = l .first; end = length (parts-of t) }))) (l .next) t u r
 
--- the place of the first word, or n where there is none
-abbrev pub place-or : ℕ → List Word → ℕ
-place-or n [] = n
-place-or n (Name x i ∷ ws) = i
-place-or n (Number x i v ∷ ws) = i
-place-or n (Gate x i g ∷ ws) = i
-place-or n (Fixed x i k ∷ ws) = i
-
 -- the word that a binder is written as
 abbrev pub keyword : binders.Binder → Kind
 keyword binders.the-variants.Let = Let
@@ -189,19 +140,19 @@ abbrev pub Plain-read : List Word → ℕ → Tree → Tree → Result Read Stop
 Plain-read ws at t u = Answers (λ v. v .next) m.plain (λ v. (x : s.Tree) × g.Plain (drop at ws) x (drop (v .next) ws) × Stands (nodes-of u) (parts-of u) (v .node) x) Quiet ws at t u
 
 abbrev pub Terms-read : List Word → ℕ → Tree → Tree → Result Listed Stop → Type 0
-Terms-read ws at t u = Answers (λ v. v .next) m.terms (λ v. (xs : s.Trees) × g.Terms (drop at ws) xs (drop (v .next) ws) × Parts-at (nodes-of u) (parts-of u) (v .first) (length (parts-of u)) xs) Quiet ws at t u
+Terms-read ws at t u = Answers (λ v. v .next) m.terms (λ v. (xs : s.Trees) × g.Terms (drop at ws) xs (drop (v .next) ws) × Parts-at (nodes-of u) (parts-of u) (length (nodes-of u)) (v .first) (length (parts-of u)) xs) Quiet ws at t u
 
 abbrev pub More-read : List Word → ℕ → Tree → Tree → Result Listed Stop → Type 0
-More-read ws at t u = Answers (λ v. v .next) m.more (λ v. (xs : s.Trees) × g.More (drop at ws) xs (drop (v .next) ws) × Parts-at (nodes-of u) (parts-of u) (v .first) (length (parts-of u)) xs × Grows t u (at + 1) (v .next)) Quiet ws at t u
+More-read ws at t u = Answers (λ v. v .next) m.more (λ v. (xs : s.Trees) × g.More (drop at ws) xs (drop (v .next) ws) × Parts-at (nodes-of u) (parts-of u) (length (nodes-of u)) (v .first) (length (parts-of u)) xs × Grows t u (at + 1) (v .next)) Quiet ws at t u
 
 abbrev pub Type-read : List Word → ℕ → Tree → Tree → Result Read Stop → Type 0
 Type-read ws at t u = Answers (λ v. v .next) m.a-type (λ v. (τ : s.Written) × g.Writes (drop at ws) τ (drop (v .next) ws) × Type-at (nodes-of u) (parts-of u) (v .node) τ) Quiet ws at t u
 
 abbrev pub Types-read : List Word → ℕ → Tree → Tree → Result Listed Stop → Type 0
-Types-read ws at t u = Answers (λ v. v .next) m.types (λ v. (τs : s.Writtens) × g.Writes-all (drop at ws) τs (drop (v .next) ws) × Types-at (nodes-of u) (parts-of u) (v .first) (length (parts-of u)) τs) Quiet ws at t u
+Types-read ws at t u = Answers (λ v. v .next) m.types (λ v. (τs : s.Writtens) × g.Writes-all (drop at ws) τs (drop (v .next) ws) × Types-at (nodes-of u) (parts-of u) (length (nodes-of u)) (v .first) (length (parts-of u)) τs) Quiet ws at t u
 
 abbrev pub More-types-read : List Word → ℕ → Tree → Tree → Result Listed Stop → Type 0
-More-types-read ws at t u = Answers (λ v. v .next) m.more-types (λ v. (τs : s.Writtens) × g.More-types (drop at ws) τs (drop (v .next) ws) × Types-at (nodes-of u) (parts-of u) (v .first) (length (parts-of u)) τs × Grows t u (at + 1) (v .next)) Quiet ws at t u
+More-types-read ws at t u = Answers (λ v. v .next) m.more-types (λ v. (τs : s.Writtens) × g.More-types (drop at ws) τs (drop (v .next) ws) × Types-at (nodes-of u) (parts-of u) (length (nodes-of u)) (v .first) (length (parts-of u)) τs × Grows t u (at + 1) (v .next)) Quiet ws at t u
 
 -- nodes and parameters together have grown by no more than the words from `at` to e
 abbrev pub Few : Tree → Tree → ℕ → ℕ → Type 0
@@ -229,22 +180,8 @@ Parameters-named at t u (Err stop.Memory) = Spare (t .nodes) at (length (paramet
 abbrev pub Signature-read : List Word → ℕ → Tree → Tree → Result ParametersRead Stop → Type 0
 Signature-read ws at t u = Answers (λ v. v .next) m.parameters (λ v. (ds : List s.Parameter) × g.Parameters (drop at ws) ds (drop (v .next) ws) × Parameters-at (nodes-of u) (parts-of u) (parameters-of u) (v .parameters .first) (v .parameters .end) ds × Names-at (nodes-of u) (v .names .first) (v .names .end) (map (λ d. d .name) ds)) Same-operations ws at t u
 
--- the entries of the table of operations from k on are those
-abbrev pub Operations-from : Tree → ℕ → List s.Operation → Type 0
-Operations-from u k os = Operations-at (nodes-of u) (parts-of u) (parameters-of u) (operations-of u) k (length (operations-of u)) os
-
 abbrev pub Operation-read : List Word → ℕ → Tree → Tree → Result ℕ Stop → Type 0
 Operation-read ws at t u = Answers (λ e. e) m.operation (λ e. (o : s.Operation) × g.Declares (drop at ws) o (drop e ws) × Operations-from u (length (operations-of t)) (o ∷ [])) (λ t u. Unit {0}) ws at t u
 
--- the tree, whose operations begin at the entry k, stands for that listing
-abbrev pub Stands-for : Tree → ℕ → s.Program → Type 0
-Stands-for u k l = Operations-from u k (l .operations) × (u .run ≡ l .run-place) × Stands (nodes-of u) (parts-of u) (u .term) (l .main)
-
 abbrev pub Listing-read : List Word → ℕ → Tree → Tree → Result ℕ Stop → Type 0
 Listing-read ws at t u = Answers (λ e. e) m.listing (λ e. (l : s.Program) × g.Lists (drop at ws) (l .operations) (l .run-place) (l .main) (drop e ws) × Stands-for u (length (operations-of t)) l) (λ t u. Unit {0}) ws at t u
-
--- What parsing answers for the words of a listing of n bytes, with tables t before and u after it: the words are a listing, the only one, and the tables stand for it; the place of the first word that continues no listing, or n where each continues one; or the tables had less room than there are words.
-abbrev pub Parsed : List Word → ℕ → Tree → Tree → Result (Unit {0}) GrammarFault → Type 0
-Parsed ws n t u (Ok _) = Grows t u 0 (length ws) × ((l : s.Program) × g.Listing ws l × ((k : s.Program) → g.Listing ws k → k ≡ l) × Stands-for u (length (operations-of t)) l)
-Parsed ws n t u (Err (fault.Stuck q)) = (p : ℕ) × g.Refused ws p × (q ≡ place-or n (drop p ws))
-Parsed ws n t u (Err fault.Memory) = Room t 0 (length ws) → ⊥

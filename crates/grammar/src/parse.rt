@@ -7,6 +7,7 @@ ghost use Rattle.words.specs.declared.token.Kind.the-variants.{Using, If, Meas,
 ghost use Rattle.syntax.specs.Machine.{heads};
 ghost use Rattle.grammar.specs.Arena.{node};
 ghost use Rattle.grammar.specs.Reading.{Expected, Added};
+ghost use Rattle.grammar.specs.Parsing as parsing;
 ghost use Rattle.grammar.specs.Reading as reading;
 use crate::tree::Basic;
 use crate::tree::Binder;
@@ -156,7 +157,7 @@ fn add_part(tree: &mut Tree, part: usize) -> Result<(), Stop>
 
 // The place of the word at `at`, or the length of the listing where there is none.
 fn place_at(words: &[Word<'_>], at: usize, length: usize) -> usize
-    ensures { λ r. ⌜ r ≡ reading.place-or length (drop at (now (words .entry))) ⌝ }
+    ensures { λ r. ⌜ r ≡ parsing.place-or length (drop at (now (words .entry))) ⌝ }
 {
     if at >= words.len() {
         return length;
@@ -572,7 +573,7 @@ fn parameters(words: &[Word<'_>], at: usize, tree: &mut Tree) -> Result<usize, S
 
 // Adds the nodes of the names of the parameters from `at` on.
 fn name_parameters(at: usize, tree: &mut Tree) -> Result<(), Stop>
-    requires within { ⌜ at ≤ length (reading.parameters-of (now tree)) ⌝ }
+    requires within { ⌜ at ≤ length (parsing.parameters-of (now tree)) ⌝ }
     ensures { λ r. ⌜ reading.Parameters-named at (now (tree .entry)) (now (tree .exit)) r ⌝ }
 {
     if at >= tree.parameters.len() {
@@ -658,7 +659,7 @@ fn listing(words: &[Word<'_>], at: usize, tree: &mut Tree) -> Result<usize, Stop
 
 // Reads the words of a listing of `length` bytes into the tree.
 pub fn parse(words: &[Word<'_>], length: usize, tree: &mut Tree) -> Result<(), GrammarFault>
-    ensures { λ r. ⌜ reading.Parsed (now (words .entry)) length (now (tree .entry)) (now (tree .exit)) r ⌝ }
+    ensures { λ r. ⌜ parsing.Parsed (now (words .entry)) length (now (tree .entry)) (now (tree .exit)) r ⌝ }
 {
     match listing(words, 0, tree) {
         Ok(end) => {

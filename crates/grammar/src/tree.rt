@@ -1,7 +1,12 @@
 // The syntax tree of a listing: an arena of nodes. The nodes of a construct's parts stand before its own.
 ghost use mathlib.Core.Bool.{true};
 ghost use mathlib.Core.Path.{_≡_};
+ghost use lib.ListN.{length};
+ghost use Rattle.std.specs.Of.Vec.{vec-items};
+ghost use Rattle.std.specs.Vec.{made};
+ghost use Rattle.grammar.specs.Arena.{At};
 ghost use Rattle.grammar.specs.Trees.{Falls};
+ghost use Rattle.grammar.specs.Parsing as parsing;
 use machine::order::Gate;
 use std::alloc::AllocError;
 use std::alloc::Global;
@@ -99,7 +104,7 @@ pub struct Parameter {
     pub written: usize,
 }
 
-// The parameters are a range of the table of parameters, their names a range of nodes that follows the body.
+// The parameters are a range of the table of parameters, their names a range of nodes.
 #[derive(Clone, Copy)]
 pub struct Operation {
     pub place: usize,
@@ -127,7 +132,9 @@ pub struct Tree {
 
 impl Tree {
     // An empty tree with room for the listings of up to `words` words.
-    pub fn room(heap: Global, words: usize) -> Result<Tree, AllocError> {
+    pub fn room(heap: Global, words: usize) -> Result<Tree, AllocError>
+        ensures { λ r. ⌜ made r (λ t. parsing.Fresh t words) ⌝ }
+    {
         let room = words.saturating_add(2);
         let mut nodes = Vec::with_capacity(heap, room)?;
         let mut parts = Vec::with_capacity(heap, room)?;
@@ -150,13 +157,16 @@ impl Tree {
     }
 
     // How many nodes there are.
-    pub fn size(&self) -> usize {
+    pub fn size(&self) -> usize
+        ensures { λ r. ⌜ r ≡ length (parsing.nodes-of (now (self .entry))) ⌝ }
+    {
         self.nodes.len()
     }
 
     // The node at `at`, or no construct where there is none.
     pub fn node(&self, at: usize) -> Node
-        ensures { λ r. ⌜ Falls at (r .construct) ⌝ }
+        ensures falls { λ r. ⌜ Falls at (r .construct) ⌝ }
+        ensures found { λ r. ⌜ ((n : Node) → At (parsing.nodes-of (now (self .entry))) at n → Falls at (n .construct) → r ≡ n) ⌝ }
     {
         if at < self.nodes.len() {
             let node = self.nodes[at];
@@ -171,45 +181,59 @@ impl Tree {
     }
 
     // The nodes.
-    pub fn nodes(&self) -> &[Node] {
+    pub fn nodes(&self) -> &[Node]
+        ensures { λ r. ⌜ now r ≡ parsing.nodes-of (now (self .entry)) ⌝ }
+    {
         self.nodes.as_slice()
     }
 
     // The table of parts.
-    pub fn parts(&self) -> &[usize] {
+    pub fn parts(&self) -> &[usize]
+        ensures { λ r. ⌜ now r ≡ parsing.parts-of (now (self .entry)) ⌝ }
+    {
         self.parts.as_slice()
     }
 
     // The parameters of all operations.
-    pub fn parameters(&self) -> &[Parameter] {
+    pub fn parameters(&self) -> &[Parameter]
+        ensures { λ r. ⌜ now r ≡ parsing.parameters-of (now (self .entry)) ⌝ }
+    {
         self.parameters.as_slice()
     }
 
     // The operations in the order of the listing.
-
-    pub fn operations(&self) -> &[Operation] {
+    pub fn operations(&self) -> &[Operation]
+        ensures { λ r. ⌜ now r ≡ parsing.operations-of (now (self .entry)) ⌝ }
+    {
         self.operations.as_slice()
     }
 
     // The place of the word run.
-    pub fn run_place(&self) -> usize {
+    pub fn run_place(&self) -> usize
+        ensures { λ r. ⌜ r ≡ now (self .entry) .run ⌝ }
+    {
         self.run
     }
 
     // The node of the term to run.
-    pub fn run_term(&self) -> usize {
+    pub fn run_term(&self) -> usize
+        ensures { λ r. ⌜ r ≡ now (self .entry) .term ⌝ }
+    {
         self.term
     }
 
     // The table of parts.
-    pub fn into_parts(self) -> Vec<usize> {
+    pub fn into_parts(self) -> Vec<usize>
+        ensures { λ r. ⌜ vec-items r ≡ parsing.parts-of self ⌝ }
+    {
         self.parts
     }
 }
 
 // Do the parts that a construct names by their nodes stand before it?
 fn falls(at: usize, construct: Construct) -> bool
-    ensures { λ r. ⌜ (r ≡ true → Falls at construct) ⌝ }
+    ensures falls { λ r. ⌜ (r ≡ true → Falls at construct) ⌝ }
+    ensures exact { λ r. ⌜ (Falls at construct → r ≡ true) ⌝ }
 {
     match construct {
         Construct::Bind {

@@ -44,11 +44,9 @@ fn handle_after(capacity: u8, last: Option<u8>) -> u8
 }
 
 // The promise about the handle that prepare gives leaves no choice.
-pub fn next_handle_stands() -> u8
+pub fn next_handle_stands()
     ensures { λ _. ⌜ One-next-handle ⌝ }
-{
-    0
-}
+{}
 
 impl Coin {
     // A capacity of 0 is taken as 1, above 64 as 64.

@@ -70,7 +70,7 @@ part-more h p v first at le lt few e q =
     let m = take-more (drop first h) (at - first) unit-item (omega arith) in
     let n = length-take (at - first) (drop first h) in
     let whole : take (at - first) (drop first h) ++ (getD h at unit-item ∷ []) ≡ take ((at + 1) - first) (drop first h) =
-        ap (λ x. take (at - first) (drop first h) ++ (x ∷ [])) (ap (λ j. getD h j unit-item) (sym s) ∙ sym (getD-drop first h (at - first) unit-item)) ∙ sym m ∙ ap (λ j. take j (drop first h)) (sym k) in
+    ap (λ x. take (at - first) (drop first h) ++ (x ∷ [])) (ap (λ j. getD h j unit-item) (sym s) ∙ sym (getD-drop first h (at - first) unit-item)) ∙ sym m ∙ ap (λ j. take j (drop first h)) (sym k) in
     q ∙ ap (λ l. roomy (l ++ (getD h at unit-item ∷ []))) e
     ∙ fit-whole 15 (take (at - first) (drop first h) ++ (getD h at unit-item ∷ [])) (simp length-append (omega arith)) ∙ whole
 

@@ -101,7 +101,7 @@ module _ (s : List ℕ) (at i : ℕ) (skipped : i ≡ at + leading blank (drop a
     next-byte : drop i s ≡ getD s i 0 ∷ drop (i + 1) s
     next-byte = drop-more s i 0 some
 
-    not-blank : blank (getD s i 0) ≡ false
+    pub not-blank : blank (getD s i 0) ≡ false
     not-blank =
         first-fails blank (getD s i 0) (drop (i + 1) s)
         (ap (leading blank) (sym next-byte) ∙ ap (λ n. leading blank (drop n s)) skipped

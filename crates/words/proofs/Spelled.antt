@@ -17,8 +17,8 @@ use Rattle.machine.specs.declared.order.Gate.{Gate}
 use Rattle.words.specs.declared.token.Kind.{Kind}
 use Rattle.words.specs.Bytes.{inner, letter}
 use Rattle.words.specs.Spellings.{kinds, gates, lookup}
-use Rattle.words.specs.Words.{Sort, name, number, gate, fixed, found, good-number, good-name, longest, sort-of, Item}
-use Rattle.words.specs.Laws.{Whole, Worded, Blank-end, Spells, Words-are-spelled}
+use Rattle.words.specs.Words.{Sort, name, number, gate, fixed, found, good-number, good-name, longest, sort-of, Item, Whole, Worded, Blank-end}
+use Rattle.words.specs.Laws.{Spells, Words-are-spelled}
 use Rattle.words.proofs.Weaving.{accepted}
 
 abbrev sort-in : Option Sort → Sort

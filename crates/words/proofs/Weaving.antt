@@ -15,8 +15,8 @@ use Rattle.std.specs.declared.option.Option.the-variants.{Some, None}
 use Rattle.std.proofs.shelf.Sums.{leading-le-length}
 use Rattle.std.proofs.shelf.Tests.{cases-bool, cond-both, eqb-true, or-cases}
 use Rattle.words.specs.Bytes.{blank, inner}
-use Rattle.words.specs.Words.{Sort, Item, item, Lexed, items, bad-at, before, begin, sort-of, extent, lex, words-of}
-use Rattle.words.specs.Laws.{Blanks, Whole, Stands, Worded, Blank-end, Bad-end, Accepted-exactly, Refused-exactly, Rising, Part, Places-rise, Words-are-parts, No-more-words-than-bytes, Bad-words-are-within}
+use Rattle.words.specs.Words.{Sort, Item, item, Lexed, items, bad-at, before, begin, sort-of, extent, lex, words-of, Blanks, Whole, Stands, Worded, Blank-end, Bad-end}
+use Rattle.words.specs.Laws.{Accepted-exactly, Refused-exactly, Rising, Part, Places-rise, Words-are-parts, No-more-words-than-bytes, Bad-words-are-within}
 use Rattle.words.proofs.Lexing.{lex-pass, lex-blank, lex-word, leading-yes, after-leading, leading-all, after, after-end, after-bad}
 
 abbrev listed : Lexed → List Item
@@ -34,11 +34,11 @@ Accepted (bad-at p) = ⊥
 both : {A : Type 0} (p : ℕ) (xs : List Item) → bad-at p ≡ items xs → A
 both p xs e = absurd (subst Accepted (sym e) tt)
 
-extent-le : (b : ℕ) (bs : List ℕ) → extent b bs ≤ length bs
+pub extent-le : (b : ℕ) (bs : List ℕ) → extent b bs ≤ length bs
 extent-le b bs = cond-both (inner b) (leading inner bs) 0 (λ n. n ≤ length bs) (λ _. leading-le-length inner bs) (λ _. omega arith)
 
 -- the first word is whole
-whole : (b : ℕ) (bs : List ℕ) → blank b ≡ false → Whole (b ∷ take (extent b bs) bs) (drop (extent b bs) bs)
+pub whole : (b : ℕ) (bs : List ℕ) → blank b ≡ false → Whole (b ∷ take (extent b bs) bs) (drop (extent b bs) bs)
 whole b bs t =
     ⊎-elim
     (λ (e : inner b ≡ true).

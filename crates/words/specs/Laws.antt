@@ -1,46 +1,18 @@
 -- Laws of the words of a listing.
 use mathlib.Core.Path.{_≡_}
-use mathlib.Core.Bool.{true, false}
-use mathlib.Core.Logic.{_⊎_, _↔_}
-use mathlib.Core.List.{List, [], _∷_, _++_}
+use mathlib.Core.Bool.{true}
+use mathlib.Core.Logic.{_↔_}
+use mathlib.Core.List.{List, [], _∷_}
 use Prim.Native.Nat.{ℕ, _+_, _≤_, _<_}
 use lib.ListN.{length, take, drop}
-use Rattle.std.specs.shelf.Lists.{All, leading}
+use Rattle.std.specs.shelf.Lists.{All}
 use Rattle.std.specs.Reads.{value}
 use Rattle.std.specs.declared.option.Option.the-variants.{Some, None}
-use Rattle.words.specs.Bytes.{blank, inner}
+use Rattle.words.specs.Bytes.{inner}
 use Rattle.words.specs.Spellings.{kinds, gates, lookup}
-use Rattle.words.specs.Words.{Sort, name, number, gate, fixed, good-name, good-number, sort-of, Item, items, bad-at, words-of}
+use Rattle.words.specs.Words.{Sort, name, number, gate, fixed, good-name, good-number, Item, items, bad-at, words-of, Worded, Blank-end, Bad-end}
 
-abbrev pub Blanks : List ℕ → Type 0
-Blanks bs = All (λ b. blank b ≡ true) bs
-
--- w is a longest run of letters and digits, or one byte that is none and no blank
-abbrev pub Whole : List ℕ → List ℕ → Type 0
-Whole w rest =
-    ((0 < length w) × All (λ b. inner b ≡ true) w × (leading inner rest ≡ 0))
-    ⊎ ((b : ℕ) × (w ≡ b ∷ []) × (inner b ≡ false) × (blank b ≡ false))
-
--- the bytes s, of which the first stands at the place `at`, are blanks, the word w at the place p, and a rest
-abbrev pub Stands : ℕ → List ℕ → List ℕ → List ℕ → ℕ → List ℕ → Type 0
-Stands at s gap w p rest = Blanks gap × (s ≡ gap ++ (w ++ rest)) × (p ≡ at + length gap) × Whole w rest
-
--- they are the words xs, each after blanks, and then what `End` says
-abbrev pub Worded : ℕ → List ℕ → List Item → (ℕ → List ℕ → Type 0) → Type 0
-Worded at s [] End = End at s
-Worded at s (x ∷ xs) End =
-    (gap : List ℕ) × (rest : List ℕ) × Stands at s gap (x .bytes) (x .place) rest × (sort-of (x .bytes) ≡ Some (x .sort))
-    × Worded (x .place + length (x .bytes)) rest xs End
-
--- blanks only
-abbrev pub Blank-end : ℕ → List ℕ → Type 0
-Blank-end at s = Blanks s
-
--- a bad word at the place p comes next
-abbrev pub Bad-end : ℕ → ℕ → List ℕ → Type 0
-Bad-end p at s = (gap : List ℕ) × (rest : List ℕ) × (w : List ℕ) × Stands at s gap w p rest × (sort-of w ≡ None)
-
--- the accepted listings are those of good words with blanks between them, and their words are these
+-- the accepted listings are good words in order and blanks at the end, with any blanks or none before each word, and their words are these
 abbrev pub Accepted-exactly : Type 0
 Accepted-exactly = (s : List ℕ) (xs : List Item) → (words-of s ≡ items xs) ↔ Worded 0 s xs Blank-end
 
@@ -48,7 +20,7 @@ Accepted-exactly = (s : List ℕ) (xs : List Item) → (words-of s ≡ items xs)
 abbrev pub Refused-exactly : Type 0
 Refused-exactly = (s : List ℕ) (p : ℕ) → (words-of s ≡ bad-at p) ↔ ((xs : List Item) × Worded 0 s xs (Bad-end p))
 
--- each word begins at `at` or after it, and the next one after its end
+-- each word begins at `at` or after it, and the next one at its end or after it
 abbrev pub Rising : ℕ → List Item → Type 0
 Rising at [] = Unit {0}
 Rising at (x ∷ xs) = (at ≤ x .place) × (0 < length (x .bytes)) × Rising (x .place + length (x .bytes)) xs

@@ -1,11 +1,12 @@
 -- The words of a listing.
 use mathlib.Core.Path.{_≡_}
 use mathlib.Core.Bool.{Bool, true, false, cond, not, _&&_}
+use mathlib.Core.Logic.{_⊎_}
 use mathlib.Core.List.{List, [], _∷_, _++_, map}
 use Prim.Native.Nat.{ℕ, zero, suc, _+_, _<_}
 use lib.Dec.{eqb, leb}
 use lib.ListN.{length, take, drop}
-use Rattle.std.specs.shelf.Lists.{leading}
+use Rattle.std.specs.shelf.Lists.{All, leading}
 use Rattle.std.specs.shelf.Text.{allDigits}
 use Rattle.std.specs.Reads.{value}
 use Rattle.std.specs.declared.option.Option.{Option}
@@ -139,19 +140,56 @@ abbrev pub Means : List ℕ → ℕ → Option Word → Type 0
 Means w p None = sort-of w ≡ None
 Means w p (Some x) = (sort-of w ≡ Some (seen x .sort)) × (seen x ≡ item (seen x .sort) w p)
 
--- what one call of a reader gives, that goes from the place `at` to `at′`
+abbrev pub Blanks : List ℕ → Type 0
+Blanks bs = All (λ b. blank b ≡ true) bs
+
+-- w is a longest run of letters and digits, or one byte that is none and no blank
+abbrev pub Whole : List ℕ → List ℕ → Type 0
+Whole w rest =
+    ((0 < length w) × All (λ b. inner b ≡ true) w × (leading inner rest ≡ 0))
+    ⊎ ((b : ℕ) × (w ≡ b ∷ []) × (inner b ≡ false) × (blank b ≡ false))
+
+-- the bytes s, of which the first stands at the place `at`, are a gap of blanks (perhaps none), the word w at the place p, and a rest
+abbrev pub Stands : ℕ → List ℕ → List ℕ → List ℕ → ℕ → List ℕ → Type 0
+Stands at s gap w p rest = Blanks gap × (s ≡ gap ++ (w ++ rest)) × (p ≡ at + length gap) × Whole w rest
+
+-- they are the good words xs, each after such a gap, and then what `End` says
+abbrev pub Worded : ℕ → List ℕ → List Item → (ℕ → List ℕ → Type 0) → Type 0
+Worded at s [] End = End at s
+Worded at s (x ∷ xs) End =
+    (gap : List ℕ) × (rest : List ℕ) × Stands at s gap (x .bytes) (x .place) rest × (sort-of (x .bytes) ≡ Some (x .sort))
+    × Worded (x .place + length (x .bytes)) rest xs End
+
+-- blanks only
+abbrev pub Blank-end : ℕ → List ℕ → Type 0
+Blank-end at s = Blanks s
+
+-- a bad word at the place p comes next
+abbrev pub Bad-end : ℕ → ℕ → List ℕ → Type 0
+Bad-end p at s = (gap : List ℕ) × (rest : List ℕ) × (w : List ℕ) × Stands at s gap w p rest × (sort-of w ≡ None)
+
+-- one good word more comes next
+abbrev pub Good-end : ℕ → List ℕ → Type 0
+Good-end at s = (x : Item) × (gap : List ℕ) × (rest : List ℕ) × Stands at s gap (x .bytes) (x .place) rest × (sort-of (x .bytes) ≡ Some (x .sort))
+
+-- from the place `at` of the listing s the word w comes next, it stands at p and ends at `at′`, and it is what o says
+abbrev pub Comes-next : List ℕ → ℕ → ℕ → List ℕ → ℕ → Option Sort → Type 0
+Comes-next s at at′ w p o = (gap : List ℕ) × Stands at (drop at s) gap w p (drop at′ s) × (sort-of w ≡ o) × (at′ ≡ p + length w)
+
+-- what one call of a reader gives, that goes from the place `at` to `at′`: nothing, at the end; the word that comes next; or the place of that word, which is bad
 abbrev pub Next : List ℕ → ℕ → ℕ → Result (Option Word) WordFault → Type 0
-Next s at at′ (Ok None) = words-from s at ≡ items []
-Next s at at′ (Ok (Some w)) = (words-from s at ≡ before (seen w) (words-from s at′)) × (at < at′)
-Next s at at′ (Err (Bad p)) = words-from s at ≡ bad-at p
+Next s at at′ (Ok None) = (words-from s at ≡ items []) × (at′ ≡ length s)
+Next s at at′ (Ok (Some w)) =
+    (words-from s at ≡ before (seen w) (words-from s at′)) × (at < at′) × Comes-next s at at′ (seen w .bytes) (seen w .place) (Some (seen w .sort))
+Next s at at′ (Err (Bad p)) = (words-from s at ≡ bad-at p) × ((w : List ℕ) × Comes-next s at at′ w p None)
 Next s at at′ (Err Memory) = ⊥
 
 -- the list `new` is the list `old` with words at its end of which P holds
 abbrev pub Appended : List Word → List Word → (List Word → Type 0) → Type 0
 Appended old new P = (ws : List Word) × (new ≡ old ++ ws) × P ws
 
--- what the answer to a listing says, ws being the words that were given
+-- what the answer to a listing says, ws being the words that were given: all words; those before the first bad one; or, where memory is wanting, those before some good one
 abbrev pub Lexes : List ℕ → List Word → Result (Unit {0}) WordFault → Type 0
 Lexes s ws (Ok _) = words-of s ≡ items (map seen ws)
-Lexes s ws (Err (Bad p)) = (words-of s ≡ bad-at p) × (refused (words-of s) ≡ refusal (Bad p))
-Lexes s ws (Err Memory) = Unit {0}
+Lexes s ws (Err (Bad p)) = (words-of s ≡ bad-at p) × (refused (words-of s) ≡ refusal (Bad p)) × Worded 0 s (map seen ws) (Bad-end p)
+Lexes s ws (Err Memory) = Worded 0 s (map seen ws) Good-end

@@ -25,7 +25,7 @@ impl<'a> Reader<'a> {
         &self.listing[start..self.place]
     }
 
-    // The next word, or None at the end.
+    // The next word, or None at the end. The place is then past the word, good or bad, or at the end.
     pub fn next(&mut self) -> Result<Option<Word<'a>>, WordFault>
         ensures listing { λ _. ⌜ now (self .exit) .listing .now ≡ now (self .entry) .listing .now ⌝ }
         ensures next { λ r. ⌜ Next (now (self .entry) .listing .now) (now (self .entry) .place) (now (self .exit) .place) r ⌝ }

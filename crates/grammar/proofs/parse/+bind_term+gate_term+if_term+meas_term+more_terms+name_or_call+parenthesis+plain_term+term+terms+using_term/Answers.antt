@@ -14,7 +14,7 @@ use Rattle.grammar.specs.Arena as at
 use Rattle.grammar.specs.Reading as reading
 use Rattle.grammar.proofs.Growth.{begins, goes, reads, turns, adds, ends, fails, misses, lacks, lacks-parts, lacks-parameters, lacks-operations, by, base-le, grows-none, quiet-all, quiet-then}
 use Rattle.grammar.proofs.Arenas as arenas
-use Rattle.grammar.proofs.Arenas.{still, still-parts, still-names, still-type, still-types}
+use Rattle.grammar.proofs.Arenas.{within, still, still-parts, still-names, still-type, still-types}
 use Rattle.grammar.proofs.Productions as p
 use Rattle.grammar.proofs.Exits as x
 use Rattle.grammar.proofs.Exits.{sized, is-word, finish, steps, gains}
@@ -41,7 +41,7 @@ bind-term-returns t c =
     let b = (c .in-Continue-right .ensures tt) in
     let d = (c .in-Continue-body .ensures tt) in
     finish g.Term at.Stands _ (c .made .result) (goes (reads (goes (reads (goes (begins (c .args .tree .now) ((c .args .at) + 1) (x.bind-way (c .args .words .now) (c .args .at) (c .args .binder) (c .pre .begins)) (omega arith) (omega arith)) ((c .in-Continue-bound .ensures tt) .0)) ((c .in-Continue-equals .ensures tt) .0) ((c .in-Continue-equals .ensures tt) .1)) ((c .in-Continue-right .ensures tt) .0)) ((c .in-Continue-inside .ensures tt) .0) ((c .in-Continue-inside .ensures tt) .1)) ((c .in-Continue-body .ensures tt) .0)) (omega arith) (quiet-then (a .3) (quiet-then (b .3) (d .3))) (c .made .ensures)
-    (λ k h o. (_, p.binding (c .args .binder) (c .place-at-place .result) (c .place-at-place .ensures) (is-word (c .args .words .now) _ (c .args .at) ((c .args .at) + 1) (c .pre .begins) refl) (a .2 .1) ((c .in-Continue-equals .ensures tt) .2) (b .2 .1) ((c .in-Continue-inside .ensures tt) .2) (d .2 .1), at.bind-at h (still-names o (still-names (d .0 .grows) (still-names (b .0 .grows) (a .2 .2)))) (still o (still (d .0 .grows) (b .2 .2))) (still o (d .2 .2))))
+    (λ k q h o. (_, p.binding (c .args .binder) (c .place-at-place .result) (c .place-at-place .ensures) (is-word (c .args .words .now) _ (c .args .at) ((c .args .at) + 1) (c .pre .begins) refl) (a .2 .1) ((c .in-Continue-equals .ensures tt) .2) (b .2 .1) ((c .in-Continue-inside .ensures tt) .2) (d .2 .1), at.bind-at h (still-names o (still-names (d .0 .grows) (still-names (b .0 .grows) (a .2 .2)))) (x.below q (within (still (d .0 .grows) (b .2 .2)))) (still o (still (d .0 .grows) (b .2 .2))) (x.below q (within (d .2 .2))) (still o (d .2 .2))))
 
 pub using-term-returns-in-Break-bound : need.using-term-returns-in-Break-bound
 using-term-returns-in-Break-bound t c = by (reading.Term-read (c .args .words .now) (c .args .at) (c .args .tree .now) _) (c .in-Break-bound .field-0 .0) (fails (c .in-Break-bound .field-0 .0) (begins (c .args .tree .now) ((c .args .at) + 1) (w.kind-word (c .args .words .now) m.term (c .args .at) Using (m.pattern ∷ this In ∷ m.term ∷ []) (c .pre .begins) (λ x i. refl)) (omega arith) (omega arith)) (c .in-Break-bound .ensures tt)) (c .from-residual .result) (c .from-residual .ensures .1)
@@ -57,7 +57,7 @@ using-term-returns t c =
     let a = (c .in-Continue-bound .ensures tt) in
     let d = (c .in-Continue-body .ensures tt) in
     finish g.Term at.Stands _ (c .made .result) (goes (reads (goes (begins (c .args .tree .now) ((c .args .at) + 1) (w.kind-word (c .args .words .now) m.term (c .args .at) Using (m.pattern ∷ this In ∷ m.term ∷ []) (c .pre .begins) (λ x i. refl)) (omega arith) (omega arith)) ((c .in-Continue-bound .ensures tt) .0)) ((c .in-Continue-inside .ensures tt) .0) ((c .in-Continue-inside .ensures tt) .1)) ((c .in-Continue-body .ensures tt) .0)) (omega arith) (quiet-then (a .3) (d .3)) (c .made .ensures)
-    (λ k h o. (_, p.preparing (c .place-at-place .result) (c .place-at-place .ensures) (is-word (c .args .words .now) _ (c .args .at) ((c .args .at) + 1) (c .pre .begins) refl) (a .2 .1) ((c .in-Continue-inside .ensures tt) .2) (d .2 .1), at.using-at h (still-names o (still-names (d .0 .grows) (a .2 .2))) (still o (d .2 .2))))
+    (λ k q h o. (_, p.preparing (c .place-at-place .result) (c .place-at-place .ensures) (is-word (c .args .words .now) _ (c .args .at) ((c .args .at) + 1) (c .pre .begins) refl) (a .2 .1) ((c .in-Continue-inside .ensures tt) .2) (d .2 .1), at.using-at h (still-names o (still-names (d .0 .grows) (a .2 .2))) (x.below q (within (d .2 .2))) (still o (d .2 .2))))
 
 pub if-term-returns-in-Break-condition : need.if-term-returns-in-Break-condition
 if-term-returns-in-Break-condition t c = by (reading.Term-read (c .args .words .now) (c .args .at) (c .args .tree .now) _) (c .in-Break-condition .field-0 .0) (fails (c .in-Break-condition .field-0 .0) (begins (c .args .tree .now) ((c .args .at) + 1) (w.kind-word (c .args .words .now) m.term (c .args .at) If (m.term ∷ this Then ∷ m.term ∷ this Else ∷ m.term ∷ []) (c .pre .begins) (λ x i. refl)) (omega arith) (omega arith)) (c .in-Break-condition .ensures tt)) (c .from-residual .result) (c .from-residual .ensures .1)
@@ -80,7 +80,7 @@ if-term-returns t c =
     let b = (c .in-Continue-yes .ensures tt) in
     let d = (c .in-Continue-other .ensures tt) in
     finish g.Term at.Stands _ (c .made .result) (goes (reads (goes (reads (goes (begins (c .args .tree .now) ((c .args .at) + 1) (w.kind-word (c .args .words .now) m.term (c .args .at) If (m.term ∷ this Then ∷ m.term ∷ this Else ∷ m.term ∷ []) (c .pre .begins) (λ x i. refl)) (omega arith) (omega arith)) ((c .in-Continue-condition .ensures tt) .0)) ((c .in-Continue-first .ensures tt) .0) ((c .in-Continue-first .ensures tt) .1)) ((c .in-Continue-yes .ensures tt) .0)) ((c .in-Continue-second .ensures tt) .0) ((c .in-Continue-second .ensures tt) .1)) ((c .in-Continue-other .ensures tt) .0)) (omega arith) (quiet-then (a .3) (quiet-then (b .3) (d .3))) (c .made .ensures)
-    (λ k h o. (_, p.choosing (c .place-at-place .result) (c .place-at-place .ensures) (is-word (c .args .words .now) _ (c .args .at) ((c .args .at) + 1) (c .pre .begins) refl) (a .2 .1) ((c .in-Continue-first .ensures tt) .2) (b .2 .1) ((c .in-Continue-second .ensures tt) .2) (d .2 .1), at.if-at h (still o (still (d .0 .grows) (still (b .0 .grows) (a .2 .2)))) (still o (still (d .0 .grows) (b .2 .2))) (still o (d .2 .2))))
+    (λ k q h o. (_, p.choosing (c .place-at-place .result) (c .place-at-place .ensures) (is-word (c .args .words .now) _ (c .args .at) ((c .args .at) + 1) (c .pre .begins) refl) (a .2 .1) ((c .in-Continue-first .ensures tt) .2) (b .2 .1) ((c .in-Continue-second .ensures tt) .2) (d .2 .1), at.if-at h (x.below q (within (still (d .0 .grows) (still (b .0 .grows) (a .2 .2))))) (still o (still (d .0 .grows) (still (b .0 .grows) (a .2 .2)))) (x.below q (within (still (d .0 .grows) (b .2 .2)))) (still o (still (d .0 .grows) (b .2 .2))) (x.below q (within (d .2 .2))) (still o (d .2 .2))))
 
 pub gate-term-returns-in-Break-open : need.gate-term-returns-in-Break-open
 gate-term-returns-in-Break-open t c = by (reading.Plain-read (c .args .words .now) (c .args .at) (c .args .tree .now) _) (c .in-Break-open .field-0 .0) (misses (c .in-Break-open .field-0 .0) (begins (c .args .tree .now) ((c .args .at) + 1) (w.word (c .args .words .now) m.plain (c .args .at) (word.Gate (c .pre .begins .0) (c .args .place) (c .args .gate)) (this Open ∷ m.terms ∷ []) (c .pre .within) (c .pre .begins .1) refl) (omega arith) (omega arith)) (c .in-Break-open .ensures tt)) (c .from-residual .result) (c .from-residual .ensures .1)
@@ -92,7 +92,7 @@ pub gate-term-returns : need.gate-term-returns
 gate-term-returns t c =
     let a = (c .in-Continue-given .ensures tt) in
     finish g.Plain at.Stands _ (c .built .result) (goes (reads (begins (c .args .tree .now) ((c .args .at) + 1) (w.word (c .args .words .now) m.plain (c .args .at) (word.Gate (c .pre .begins .0) (c .args .place) (c .args .gate)) (this Open ∷ m.terms ∷ []) (c .pre .within) (c .pre .begins .1) refl) (omega arith) (omega arith)) ((c .in-Continue-open .ensures tt) .0) ((c .in-Continue-open .ensures tt) .1)) ((c .in-Continue-given .ensures tt) .0)) (omega arith) (a .3) (c .built .ensures)
-    (λ k h o. (_, p.applying (c .pre .begins .1) ((c .in-Continue-open .ensures tt) .2) (a .2 .1), at.gate-at h (still-parts o (a .2 .2))))
+    (λ k q h o. (_, p.applying (c .pre .begins .1) ((c .in-Continue-open .ensures tt) .2) (a .2 .1), at.gate-at h (x.parts-to q (still-parts o (a .2 .2)))))
 
 pub meas-term-returns-in-Break-open : need.meas-term-returns-in-Break-open
 meas-term-returns-in-Break-open t c = by (reading.Plain-read (c .args .words .now) (c .args .at) (c .args .tree .now) _) (c .in-Break-open .field-0 .0) (misses (c .in-Break-open .field-0 .0) (begins (c .args .tree .now) ((c .args .at) + 1) (w.kind-word (c .args .words .now) m.plain (c .args .at) Meas (this Open ∷ m.term ∷ this Close ∷ []) (c .pre .begins) (λ x i. refl)) (omega arith) (omega arith)) (c .in-Break-open .ensures tt)) (c .from-residual .result) (c .from-residual .ensures .1)
@@ -111,17 +111,17 @@ meas-term-returns t c =
     let a = (c .in-Continue-part .ensures tt) in
     let b = (c .in-Continue-add-part .ensures tt) in
     finish g.Plain at.Stands _ (c .built .result) (adds ((c .args .at) + 1) (reads (goes (reads (begins (c .args .tree .now) ((c .args .at) + 1) (w.kind-word (c .args .words .now) m.plain (c .args .at) Meas (this Open ∷ m.term ∷ this Close ∷ []) (c .pre .begins) (λ x i. refl)) (omega arith) (omega arith)) ((c .in-Continue-open .ensures tt) .0) ((c .in-Continue-open .ensures tt) .1)) ((c .in-Continue-part .ensures tt) .0)) ((c .in-Continue-close .ensures tt) .0) ((c .in-Continue-close .ensures tt) .1)) ((c .in-Continue-add-part .ensures tt) .0) (omega arith) (omega arith)) (omega arith) (quiet-then (a .3) (record { parameters = b .4; operations = b .5 })) (c .built .ensures)
-    (λ k h o. (_, p.measuring (c .place-at-place .result) (c .place-at-place .ensures) (is-word (c .args .words .now) _ (c .args .at) ((c .args .at) + 1) (c .pre .begins) refl) ((c .in-Continue-open .ensures tt) .2) (a .2 .1) ((c .in-Continue-close .ensures tt) .2), at.meas-at h (still-parts o (x.more-parts _ (b .2) (still (b .0) (a .2 .2)) (x.no-parts _ _ (c .len-first .ensures ∙ sized (c .term .last .tree .parts))) (b .1)))))
+    (λ k q h o. (_, p.measuring (c .place-at-place .result) (c .place-at-place .ensures) (is-word (c .args .words .now) _ (c .args .at) ((c .args .at) + 1) (c .pre .begins) refl) ((c .in-Continue-open .ensures tt) .2) (a .2 .1) ((c .in-Continue-close .ensures tt) .2), at.meas-at h (x.parts-to q (still-parts o (x.more-parts _ (b .2) (still (b .0) (a .2 .2)) (omega arith) (x.no-parts _ _ (c .len-first .ensures ∙ sized (c .term .last .tree .parts))) (b .1))))))
 
 pub name-or-call-returns-then-not-holds : need.name-or-call-returns-then-not-holds
 name-or-call-returns-then-not-holds t c =
     finish g.Plain at.Stands _ (c .made .result) (turns [] (begins (c .args .tree .now) ((c .args .at) + 1) (x.name-way (c .args .words .now) (c .args .at) (c .pre .within) (c .pre .begins .2)) (omega arith) (omega arith)) (w.name-ends (c .args .words .now) ((c .args .at) + 1) (omega (arith, c .pre .within)) (sym (c .if-not-holds .ensures tt .heads)))) (omega arith) (quiet-all (c .args .tree .now)) (c .made .ensures)
-    (λ k h o. (_, p.name-there (c .pre .begins .2), at.use-at h (c .pre .begins .3)))
+    (λ k q h o. (_, p.name-there (c .pre .begins .2), at.use-at h (c .pre .begins .3)))
 
 pub name-or-call-returns-then-holds : need.name-or-call-returns-then-holds
 name-or-call-returns-then-holds t c =
     finish g.Plain at.Stands _ (c .made-then-holds .result) (begins (c .args .tree .now) ((c .args .at) + 1) (x.call-empty (c .args .words .now) (c .args .at) (c .pre .within) (c .pre .begins .2) (sym (c .if-not-holds .ensures tt .heads)) (sym (c .if-holds .ensures tt .heads))) (omega arith) (omega arith)) (omega arith) (quiet-all (c .args .tree .now)) (c .made-then-holds .ensures)
-    (λ k h o. (_, p.calling (c .pre .begins .2) (is-word (c .args .words .now) _ ((c .args .at) + 1) ((c .args .at) + 2) (sym (c .if-not-holds .ensures tt .heads)) (omega arith)) (p.none-given (is-word (c .args .words .now) _ ((c .args .at) + 2) ((c .args .at) + 3) (sym (c .if-holds .ensures tt .heads)) (omega arith))), at.call-at h (c .pre .begins .3) at.no-parts-at))
+    (λ k q h o. (_, p.calling (c .pre .begins .2) (is-word (c .args .words .now) _ ((c .args .at) + 1) ((c .args .at) + 2) (sym (c .if-not-holds .ensures tt .heads)) (omega arith)) (p.none-given (is-word (c .args .words .now) _ ((c .args .at) + 2) ((c .args .at) + 3) (sym (c .if-holds .ensures tt .heads)) (omega arith))), at.call-at h (c .pre .begins .3) at.no-parts-at))
 
 pub name-or-call-terms-requires : need.name-or-call-terms-requires
 name-or-call-terms-requires t c κs = omega (arith, w.there (c .args .words .now) Open ((c .args .at) + 1) (sym (c .if-not-holds .ensures tt .heads)) .0)
@@ -133,12 +133,12 @@ pub name-or-call-returns : need.name-or-call-returns
 name-or-call-returns t c =
     let a = (c .in-Continue-given .ensures tt) in
     finish g.Plain at.Stands _ (c .built .result) (goes (turns (m.terms ∷ []) (begins (c .args .tree .now) ((c .args .at) + 1) (x.call-way (c .args .words .now) (c .args .at) (c .pre .within) (c .pre .begins .2) (sym (c .if-not-holds .ensures tt .heads))) (omega arith) (omega arith)) (w.some-arguments (c .args .words .now) ((c .args .at) + 2) (omega (arith, w.there (c .args .words .now) Open ((c .args .at) + 1) (sym (c .if-not-holds .ensures tt .heads)) .0)) (sym (c .if-holds .ensures tt .heads)))) ((c .in-Continue-given .ensures tt) .0)) (omega arith) (a .3) (c .built .ensures)
-    (λ k h o. (_, p.calling (c .pre .begins .2) (is-word (c .args .words .now) _ ((c .args .at) + 1) ((c .args .at) + 2) (sym (c .if-not-holds .ensures tt .heads)) (omega arith)) (g.some-arguments (a .2 .1)), at.call-at h (c .pre .begins .3) (still-parts o (a .2 .2))))
+    (λ k q h o. (_, p.calling (c .pre .begins .2) (is-word (c .args .words .now) _ ((c .args .at) + 1) ((c .args .at) + 2) (sym (c .if-not-holds .ensures tt .heads)) (omega arith)) (g.some-arguments (a .2 .1)), at.call-at h (c .pre .begins .3) (x.parts-to q (still-parts o (a .2 .2)))))
 
 pub parenthesis-returns-then-holds : need.parenthesis-returns-then-holds
 parenthesis-returns-then-holds t c =
     finish g.Plain at.Stands _ (c .made .result) (turns [] (begins (c .args .tree .now) ((c .args .at) + 1) (w.kind-word (c .args .words .now) m.plain (c .args .at) Open (m.after-open ∷ []) (c .pre .begins) (λ x i. refl)) (omega arith) (omega arith)) (x.way-to ((c .args .at) + 2) (w.kind-word (c .args .words .now) m.after-open ((c .args .at) + 1) Close [] (sym (c .if-holds .ensures tt .heads)) (λ x i. refl)) (omega arith))) (omega arith) (quiet-all (c .args .tree .now)) (c .made .ensures)
-    (λ k h o. (_, p.empty (c .place-at-place .result) (c .place-at-place .ensures) (is-word (c .args .words .now) _ (c .args .at) ((c .args .at) + 1) (c .pre .begins) refl) (is-word (c .args .words .now) _ ((c .args .at) + 1) ((c .args .at) + 2) (sym (c .if-holds .ensures tt .heads)) (omega arith)), at.constant-at h))
+    (λ k q h o. (_, p.empty (c .place-at-place .result) (c .place-at-place .ensures) (is-word (c .args .words .now) _ (c .args .at) ((c .args .at) + 1) (c .pre .begins) refl) (is-word (c .args .words .now) _ ((c .args .at) + 1) ((c .args .at) + 2) (sym (c .if-holds .ensures tt .heads)) (omega arith)), at.constant-at h))
 
 pub parenthesis-returns-in-Break-inner : need.parenthesis-returns-in-Break-inner
 parenthesis-returns-in-Break-inner t c = by (reading.Plain-read (c .args .words .now) (c .args .at) (c .args .tree .now) _) (c .in-Break-inner .field-0 .0) (fails (c .in-Break-inner .field-0 .0) (turns (m.term ∷ m.in-parens ∷ []) (begins (c .args .tree .now) ((c .args .at) + 1) (w.kind-word (c .args .words .now) m.plain (c .args .at) Open (m.after-open ∷ []) (c .pre .begins) (λ x i. refl)) (omega arith) (omega arith)) (w.some-parts (c .args .words .now) ((c .args .at) + 1) (omega (arith, c .pre .within)) (sym (c .if-holds .ensures tt .heads)))) (c .in-Break-inner .ensures tt)) (c .from-residual .result) (c .from-residual .ensures .1)
@@ -167,7 +167,7 @@ parenthesis-returns t c =
     let b = (c .in-Continue-rest .ensures tt) in
     let d = (c .in-Continue-add-part .ensures tt) in
     finish g.Plain at.Stands _ (c .built .result) (adds ((c .args .at) + 1) (goes (steps (m.terms ∷ []) (goes (turns (m.term ∷ m.in-parens ∷ []) (begins (c .args .tree .now) ((c .args .at) + 1) (w.kind-word (c .args .words .now) m.plain (c .args .at) Open (m.after-open ∷ []) (c .pre .begins) (λ x i. refl)) (omega arith) (omega arith)) (w.some-parts (c .args .words .now) ((c .args .at) + 1) (omega (arith, c .pre .within)) (sym (c .if-holds .ensures tt .heads)))) ((c .in-Continue-inner .ensures tt) .0)) (w.kind-word (c .args .words .now) m.in-parens (c .in-Continue-inner .inner .next) Comma (m.terms ∷ []) (sym (c .if-not-holds .ensures tt .heads)) (λ x i. refl)) (omega arith)) ((c .in-Continue-rest .ensures tt) .0)) ((c .in-Continue-add-part .ensures tt) .0) (omega arith) (omega arith)) (omega arith) (quiet-then (a .3) (quiet-then (b .3) (record { parameters = d .4; operations = d .5 }))) (c .built .ensures)
-    (λ k h o. (_, p.tupling (c .place-at-place .result) (c .place-at-place .ensures) (is-word (c .args .words .now) _ (c .args .at) ((c .args .at) + 1) (c .pre .begins) refl) (a .2 .1) (is-word (c .args .words .now) _ (c .in-Continue-inner .inner .next) ((c .in-Continue-inner .inner .next) + 1) (sym (c .if-not-holds .ensures tt .heads)) refl) (b .2 .1), at.tuple-at h (still-parts o (x.more-parts _ (d .2) (still (d .0) (still (b .0 .grows) (a .2 .2))) (still-parts (d .0) (b .2 .2)) (d .1)))))
+    (λ k q h o. (_, p.tupling (c .place-at-place .result) (c .place-at-place .ensures) (is-word (c .args .words .now) _ (c .args .at) ((c .args .at) + 1) (c .pre .begins) refl) (a .2 .1) (is-word (c .args .words .now) _ (c .in-Continue-inner .inner .next) ((c .in-Continue-inner .inner .next) + 1) (sym (c .if-not-holds .ensures tt .heads)) refl) (b .2 .1), at.tuple-at h (x.parts-to q (still-parts o (x.more-parts _ (d .2) (still (d .0) (still (b .0 .grows) (a .2 .2))) (d .0 .nodes .kept .longer) (still-parts (d .0) (b .2 .2)) (d .1))))))
 
 pub terms-returns-in-Break-part : need.terms-returns-in-Break-part
 terms-returns-in-Break-part t c = by (reading.Terms-read (c .args .words .now) (c .args .at) (c .args .tree .now) _) (c .in-Break-part .field-0 .0) (fails (c .in-Break-part .field-0 .0) (begins (c .args .tree .now) (c .args .at) (w.some-terms (c .args .words .now) (c .args .at) (c .pre .within)) (omega arith) (omega arith)) (c .in-Break-part .ensures tt)) (c .from-residual .result) (c .from-residual .ensures .1)
@@ -184,7 +184,7 @@ terms-returns t c =
     let b = (c .in-Continue-rest .ensures tt) in
     let d = (c .in-Continue-add-part .ensures tt) in
     let q = gains (goes (begins (c .args .tree .now) (c .args .at) (w.some-terms (c .args .words .now) (c .args .at) (c .pre .within)) (omega arith) (omega arith)) ((c .in-Continue-part .ensures tt) .0)) ((c .in-Continue-rest .ensures tt) .0) ((c .in-Continue-rest .ensures tt) .2 .3) in
-    (ends (adds (c .args .at) q (d .0) (omega arith) (omega arith)), omega (arith, base-le q), (s._∷ᵗ_ (a .2 .0) (b .2 .0), g.some-terms (a .2 .1) (b .2 .1), x.more-parts _ (d .2) (still (d .0) (still (b .0 .grows) (a .2 .2))) (still-parts (d .0) (b .2 .2)) (d .1)), quiet-then (a .3) (quiet-then (b .3) (record { parameters = d .4; operations = d .5 })))
+    (ends (adds (c .args .at) q (d .0) (omega arith) (omega arith)), omega (arith, base-le q), (s._∷ᵗ_ (a .2 .0) (b .2 .0), g.some-terms (a .2 .1) (b .2 .1), x.more-parts _ (d .2) (still (d .0) (still (b .0 .grows) (a .2 .2))) (d .0 .nodes .kept .longer) (still-parts (d .0) (b .2 .2)) (d .1)), quiet-then (a .3) (quiet-then (b .3) (record { parameters = d .4; operations = d .5 })))
 
 pub more-terms-terms-requires : need.more-terms-terms-requires
 more-terms-terms-requires t c κs = omega (arith, w.there (c .args .words .now) Comma (c .args .at) (sym (c .if-holds .ensures tt .heads)) .0)
@@ -219,19 +219,19 @@ pub plain-term-returns-in-Number : need.plain-term-returns-in-Number
 plain-term-returns-in-Number t c =
     let d = (w.word-here (c .args .words .now) (c .args .at) _ _ (c .if-at-words .left) (c .in-Number .is)) in
     finish g.Plain at.Stands _ (c .made .result) (begins (c .args .tree .now) ((c .args .at) + 1) (w.word (c .args .words .now) m.plain (c .args .at) _ [] (c .if-at-words .left) d refl) (omega arith) (omega arith)) (omega arith) (quiet-all (c .args .tree .now)) (c .made .ensures)
-    (λ k h o. (_, p.number-there d, at.constant-at h))
+    (λ k q h o. (_, p.number-there d, at.constant-at h))
 
 pub plain-term-returns-in-Zero : need.plain-term-returns-in-Zero
 plain-term-returns-in-Zero t c =
     let d = (w.word-here (c .args .words .now) (c .args .at) _ (word.Fixed (c .in-Fixed .text) (c .in-Fixed .place) Zero) (c .if-at-words .left) (c .in-Fixed .is ∙ ap (word.Fixed (c .in-Fixed .text) (c .in-Fixed .place)) (c .in-Zero .is))) in
     finish g.Plain at.Stands _ (c .made-in-Zero .result) (begins (c .args .tree .now) ((c .args .at) + 1) (w.word (c .args .words .now) m.plain (c .args .at) _ [] (c .if-at-words .left) d refl) (omega arith) (omega arith)) (omega arith) (quiet-all (c .args .tree .now)) (c .made-in-Zero .ensures)
-    (λ k h o. (_, p.zero-there d, at.constant-at h))
+    (λ k q h o. (_, p.zero-there d, at.constant-at h))
 
 pub plain-term-returns-in-One : need.plain-term-returns-in-One
 plain-term-returns-in-One t c =
     let d = (w.word-here (c .args .words .now) (c .args .at) _ (word.Fixed (c .in-Fixed .text) (c .in-Fixed .place) One) (c .if-at-words .left) (c .in-Fixed .is ∙ ap (word.Fixed (c .in-Fixed .text) (c .in-Fixed .place)) (c .in-One .is))) in
     finish g.Plain at.Stands _ (c .made-in-One .result) (begins (c .args .tree .now) ((c .args .at) + 1) (w.word (c .args .words .now) m.plain (c .args .at) _ [] (c .if-at-words .left) d refl) (omega arith) (omega arith)) (omega arith) (quiet-all (c .args .tree .now)) (c .made-in-One .ensures)
-    (λ k h o. (_, p.one-there d, at.constant-at h))
+    (λ k q h o. (_, p.one-there d, at.constant-at h))
 
 pub plain-term-returns-in-rest : need.plain-term-returns-in-rest
 plain-term-returns-in-rest t c = w.no-word (c .args .words .now) m.plain (c .args .at) _ (c .if-at-words .left) (w.word-here (c .args .words .now) (c .args .at) _ _ (c .if-at-words .left) (c .in-Fixed .is)) (w.plain-none (c .in-Fixed .text) (c .in-Fixed .place) (c .in-Fixed .kind) (c .in-rest .not-Zero) (c .in-rest .not-One) (c .in-rest .not-Meas) (c .in-rest .not-Open)) refl

@@ -14,7 +14,7 @@ use Rattle.grammar.specs.Arena as at
 use Rattle.grammar.specs.Reading as reading
 use Rattle.grammar.proofs.Growth.{begins, goes, reads, turns, adds, ends, fails, misses, lacks, lacks-parts, lacks-parameters, lacks-operations, by, base-le, grows-none, quiet-all, quiet-then}
 use Rattle.grammar.proofs.Arenas as arenas
-use Rattle.grammar.proofs.Arenas.{still, still-parts, still-names, still-type, still-types}
+use Rattle.grammar.proofs.Arenas.{within, still, still-parts, still-names, still-type, still-types}
 use Rattle.grammar.proofs.Productions as p
 use Rattle.grammar.proofs.Exits as x
 use Rattle.grammar.proofs.Exits.{sized, is-word, finish, steps, gains}
@@ -49,27 +49,27 @@ written-types-returns t c =
     let b = (c .in-Continue-rest .ensures tt) in
     let d = (c .in-Continue-add-part .ensures tt) in
     let q = gains (goes (begins (c .args .tree .now) (c .args .at) (w.some-types (c .args .words .now) (c .args .at) (c .pre .within)) (omega arith) (omega arith)) ((c .in-Continue-part .ensures tt) .0)) ((c .in-Continue-rest .ensures tt) .0) ((c .in-Continue-rest .ensures tt) .2 .3) in
-    (ends (adds (c .args .at) q (d .0) (omega arith) (omega arith)), omega (arith, base-le q), (s._∷ʷ_ (a .2 .0) (b .2 .0), g.some-types (a .2 .1) (b .2 .1), x.more-types _ (d .2) (still-type (d .0) (still-type (b .0 .grows) (a .2 .2))) (still-types (d .0) (b .2 .2)) (d .1)), quiet-then (a .3) (quiet-then (b .3) (record { parameters = d .4; operations = d .5 })))
+    (ends (adds (c .args .at) q (d .0) (omega arith) (omega arith)), omega (arith, base-le q), (s._∷ʷ_ (a .2 .0) (b .2 .0), g.some-types (a .2 .1) (b .2 .1), x.more-types _ (d .2) (still-type (d .0) (still-type (b .0 .grows) (a .2 .2))) (d .0 .nodes .kept .longer) (still-types (d .0) (b .2 .2)) (d .1)), quiet-then (a .3) (quiet-then (b .3) (record { parameters = d .4; operations = d .5 })))
 
 pub written-type-returns-then-holds : need.written-type-returns-then-holds
 written-type-returns-then-holds t c =
     finish g.Writes at.Type-at _ (c .made .result) (begins (c .args .tree .now) ((c .args .at) + 1) (x.type-way-unit (c .args .words .now) (c .args .at) (sym (c .if-holds .ensures tt .heads))) (omega arith) (omega arith)) (omega arith) (quiet-all (c .args .tree .now)) (c .made .ensures)
-    (λ k h o. (_, p.unit-written (c .place-at-place .result) (c .place-at-place .ensures) (is-word (c .args .words .now) _ (c .args .at) ((c .args .at) + 1) (sym (c .if-holds .ensures tt .heads)) refl), at.basic-at h))
+    (λ k q h o. (_, p.unit-written (c .place-at-place .result) (c .place-at-place .ensures) (is-word (c .args .words .now) _ (c .args .at) ((c .args .at) + 1) (sym (c .if-holds .ensures tt .heads)) refl), at.basic-at h))
 
 pub written-type-returns-then-holds-2 : need.written-type-returns-then-holds-2
 written-type-returns-then-holds-2 t c =
     finish g.Writes at.Type-at _ (c .made-then-holds-2 .result) (begins (c .args .tree .now) ((c .args .at) + 1) (x.type-way-bit (c .args .words .now) (c .args .at) (sym (c .if-holds-2 .ensures tt .heads))) (omega arith) (omega arith)) (omega arith) (quiet-all (c .args .tree .now)) (c .made-then-holds-2 .ensures)
-    (λ k h o. (_, p.bit-written (c .place-at-place .result) (c .place-at-place .ensures) (is-word (c .args .words .now) _ (c .args .at) ((c .args .at) + 1) (sym (c .if-holds-2 .ensures tt .heads)) refl), at.basic-at h))
+    (λ k q h o. (_, p.bit-written (c .place-at-place .result) (c .place-at-place .ensures) (is-word (c .args .words .now) _ (c .args .at) ((c .args .at) + 1) (sym (c .if-holds-2 .ensures tt .heads)) refl), at.basic-at h))
 
 pub written-type-returns-then-holds-3 : need.written-type-returns-then-holds-3
 written-type-returns-then-holds-3 t c =
     finish g.Writes at.Type-at _ (c .made-then-holds-3 .result) (begins (c .args .tree .now) ((c .args .at) + 1) (x.type-way-int (c .args .words .now) (c .args .at) (sym (c .if-holds-3 .ensures tt .heads))) (omega arith) (omega arith)) (omega arith) (quiet-all (c .args .tree .now)) (c .made-then-holds-3 .ensures)
-    (λ k h o. (_, p.int-written (c .place-at-place .result) (c .place-at-place .ensures) (is-word (c .args .words .now) _ (c .args .at) ((c .args .at) + 1) (sym (c .if-holds-3 .ensures tt .heads)) refl), at.basic-at h))
+    (λ k q h o. (_, p.int-written (c .place-at-place .result) (c .place-at-place .ensures) (is-word (c .args .words .now) _ (c .args .at) ((c .args .at) + 1) (sym (c .if-holds-3 .ensures tt .heads)) refl), at.basic-at h))
 
 pub written-type-returns-then-holds-4 : need.written-type-returns-then-holds-4
 written-type-returns-then-holds-4 t c =
     finish g.Writes at.Type-at _ (c .made-then-holds-4 .result) (begins (c .args .tree .now) ((c .args .at) + 1) (x.type-way-qbit (c .args .words .now) (c .args .at) (sym (c .if-holds-4 .ensures tt .heads))) (omega arith) (omega arith)) (omega arith) (quiet-all (c .args .tree .now)) (c .made-then-holds-4 .ensures)
-    (λ k h o. (_, p.qbit-written (c .place-at-place .result) (c .place-at-place .ensures) (is-word (c .args .words .now) _ (c .args .at) ((c .args .at) + 1) (sym (c .if-holds-4 .ensures tt .heads)) refl), at.basic-at h))
+    (λ k q h o. (_, p.qbit-written (c .place-at-place .result) (c .place-at-place .ensures) (is-word (c .args .words .now) _ (c .args .at) ((c .args .at) + 1) (sym (c .if-holds-4 .ensures tt .heads)) refl), at.basic-at h))
 
 pub written-type-returns-in-Break-open : need.written-type-returns-in-Break-open
 written-type-returns-in-Break-open t c = by (reading.Type-read (c .args .words .now) (c .args .at) (c .args .tree .now) _) (c .in-Break-open .field-0 .0) (misses (c .in-Break-open .field-0 .0) (begins (c .args .tree .now) (c .args .at) (w.tuple-type-opens (c .args .words .now) (c .args .at) (c .pre .within) (sym (c .if-holds .ensures tt .heads)) (sym (c .if-holds-2 .ensures tt .heads)) (sym (c .if-holds-3 .ensures tt .heads)) (sym (c .if-holds-4 .ensures tt .heads))) (omega arith) (omega arith)) (c .in-Break-open .ensures tt)) (c .from-residual .result) (c .from-residual .ensures .1)
@@ -92,4 +92,4 @@ written-type-returns t c =
     let b = (c .in-Continue-rest .ensures tt) in
     let d = (c .in-Continue-add-part .ensures tt) in
     finish g.Writes at.Type-at _ (c .made-2 .result) (adds ((c .args .at) + 1) (goes (reads (goes (reads (begins (c .args .tree .now) (c .args .at) (w.tuple-type-opens (c .args .words .now) (c .args .at) (c .pre .within) (sym (c .if-holds .ensures tt .heads)) (sym (c .if-holds-2 .ensures tt .heads)) (sym (c .if-holds-3 .ensures tt .heads)) (sym (c .if-holds-4 .ensures tt .heads))) (omega arith) (omega arith)) ((c .in-Continue-open .ensures tt) .0) ((c .in-Continue-open .ensures tt) .1)) ((c .in-Continue-first .ensures tt) .0)) ((c .in-Continue-second .ensures tt) .0) ((c .in-Continue-second .ensures tt) .1)) ((c .in-Continue-rest .ensures tt) .0)) ((c .in-Continue-add-part .ensures tt) .0) (omega arith) (omega arith)) (omega arith) (quiet-then (a .3) (quiet-then (b .3) (record { parameters = d .4; operations = d .5 }))) (c .made-2 .ensures)
-    (λ k h o. (_, p.tupling-types (c .place-at-place .result) (c .place-at-place .ensures) ((c .in-Continue-open .ensures tt) .2) (a .2 .1) ((c .in-Continue-second .ensures tt) .2) (b .2 .1), at.tuple-type-at h (still-types o (x.more-types _ (d .2) (still-type (d .0) (still-type (b .0 .grows) (a .2 .2))) (still-types (d .0) (b .2 .2)) (c .len-end .ensures ∙ sized (c .add-part .last .tree .parts) ∙ d .1)))))
+    (λ k q h o. (_, p.tupling-types (c .place-at-place .result) (c .place-at-place .ensures) ((c .in-Continue-open .ensures tt) .2) (a .2 .1) ((c .in-Continue-second .ensures tt) .2) (b .2 .1), at.tuple-type-at h (x.types-to q (still-types o (x.more-types _ (d .2) (still-type (d .0) (still-type (b .0 .grows) (a .2 .2))) (d .0 .nodes .kept .longer) (still-types (d .0) (b .2 .2)) (c .len-end .ensures ∙ sized (c .add-part .last .tree .parts) ∙ d .1))))))

@@ -1,7 +1,7 @@
 use mathlib.Core.Path.{sym, ap}
 use Rattle.std.proofs.shelf.Lists.{drop-all}
 use Rattle.syntax.proofs.Ways.{word-here}
-use Rattle.grammar.specs.Reading.{place-or}
+use Rattle.grammar.specs.Parsing.{place-or}
 use Rattle.grammar.proofs.parse.place_at.Needs as need
 
 pub returns-then-at-words : need.returns-then-at-words

@@ -37,7 +37,7 @@ returns-in-Break-push c =
     let more = less (c .args .listing .now) (c .loop-word .reader .listing .now) (c .loop-word .inv .0) (c .loop-word .reader .place) (c .next .last .self .place) (vec-items (c .args .out .now)) (vec-items (c .loop-word .out)) (c .loop-word .inv .1) (c .in-Continue-word .field-0) (c .in-Some .word) (c .in-Some .is) (c .in-Continue-word .ensures tt .next) in
     let room = no-room (c .args .listing .now) (c .loop-word .reader .listing .now) (c .loop-word .inv .0) (c .loop-word .reader .place) (c .next .last .self .place) (vec-items (c .args .out .now)) (vec-items (c .loop-word .out)) (c .loop-word .inv .1) (c .args .out .now .cap) (c .loop-word .out .cap) (c .loop-word .inv .2) (omega (arith, c .in-Break-push .ensures tt .cases, c .loop-word .out .ok .0)) more (omega (arith, c .next .last .self .within, ap length (c .next .ensures .listing))) in
     record {
-      words = full (c .args .listing .now) (c .loop-word .reader .listing .now) (c .loop-word .inv .0) (c .loop-word .reader .place) (c .next .last .self .place) (vec-items (c .args .out .now)) (vec-items (c .loop-word .out)) (c .loop-word .inv .1) (vec-items (c .push .last .self)) (c .from-residual-in-Break-push .result) (c .in-Break-push .ensures tt .items) (p .1 ∙ ap Err (p .2));
+      words = full (c .args .listing .now) (c .loop-word .reader .listing .now) (c .loop-word .inv .0) (c .loop-word .reader .place) (c .next .last .self .place) (vec-items (c .args .out .now)) (vec-items (c .loop-word .out)) (c .loop-word .inv .1) (c .in-Continue-word .field-0) (c .in-Some .word) (c .in-Some .is) (c .in-Continue-word .ensures tt .next) (vec-items (c .push .last .self)) (c .from-residual-in-Break-push .result) (c .in-Break-push .ensures tt .items) (p .1 ∙ ap Err (p .2));
       memory = λ m. omega (arith, room, c .args .out .now .ok .0);
     }
 

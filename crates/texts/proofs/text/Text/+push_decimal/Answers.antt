@@ -15,6 +15,7 @@ after t c x e = c .push .ensures ∙ ap (λ s. fitted (written s ++ ((48 + c .ar
 pub returns : need.returns
 returns t c =
     elim (c .if-n-ge10 .came) [
-      then-n-ge10 w ↦ push-last (written (c .args .self .now)) (written (w .push-decimal .last .self)) (written (c .push .last .self)) (c .args .n) (omega (arith, w .if-n-ge10 .taken)) (omega arith)
+      | then-n-ge10 w ↦ push-last (written (c .args .self .now)) (written (w .push-decimal .last .self)) (written (c .push .last .self)) (c .args .n) (omega (arith, w .if-n-ge10 .taken)) (omega arith)
           (w .push-decimal .ensures) (after t c (w .push-decimal .last .self) (w .self-is))
-    | else-n-ge10 w ↦ push-small (written (c .args .self .now)) (written (c .push .last .self)) (c .args .n) (omega (arith, w .if-n-ge10 .left)) (after t c (c .args .self .now) (w .self-is)) ]
+      | else-n-ge10 w ↦ push-small (written (c .args .self .now)) (written (c .push .last .self)) (c .args .n) (omega (arith, w .if-n-ge10 .left)) (after t c (c .args .self .now) (w .self-is))
+    ]

@@ -1,0 +1,9 @@
+pub mod Names
+pub mod Keeping
+pub mod Histories
+pub mod Callers
+pub mod Exits
+pub mod Seeing
+pub mod Chains
+pub mod Any
+pub mod Refusals

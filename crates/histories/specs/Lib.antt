@@ -1,0 +1,5 @@
+pub mod Views
+pub mod Calls
+pub mod Histories
+pub mod Laws
+pub mod Shows

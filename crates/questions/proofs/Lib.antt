@@ -1,0 +1,10 @@
+pub mod Chains
+pub mod Ties
+pub mod Sound
+pub mod Programs
+pub mod Complete
+pub mod Exists
+pub mod Whole
+pub mod Naming
+pub mod Marks
+pub mod Listings

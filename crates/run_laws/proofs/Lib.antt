@@ -1,0 +1,16 @@
+pub mod Closing
+pub mod Tables
+pub mod Frames
+pub mod Clear
+pub mod Fits
+pub mod Arms
+pub mod Parts
+pub mod Rooms
+pub mod Ends
+pub mod Whole
+pub mod Once
+pub mod Writes
+pub mod Sample
+pub mod Stacks
+pub mod Steps
+pub mod Sizes
