@@ -1,4 +1,4 @@
--- Which terms have which type, in a scope (what each name is bound to) and with the linear names given (how many of each: none or one).
+-- Which terms have which type, in a scope (what each name is bound to) and with the linear names given (how many of each; none or one, wherever a derivation begins with none or one).
 use mathlib.Core.Path.{_≡_}
 use mathlib.Core.List.{List, [], _∷_}
 use mathlib.Core.Bool.{cond}

@@ -107,6 +107,7 @@ Clear es (handle h) = Unit {0}
 abbrev pub Table : Type 0
 Table = ℕ → Value
 
+-- at the start each entry holds unit, and what is left names none
 abbrev pub empty : Table
 empty e = the-unit
 

@@ -641,7 +641,7 @@ fn operation(words: &[Word<'_>], at: usize, tree: &mut Tree) -> Result<usize, St
     Ok(next)
 }
 
-// {operation} run term, from the word `at` on, and no word after it.
+// {operation} run term, from the word `at` on; answers the word after it.
 fn listing(words: &[Word<'_>], at: usize, tree: &mut Tree) -> Result<usize, Stop>
     requires within { ⌜ at ≤ length (now words) ⌝ }
     ensures { λ r. ⌜ reading.Listing-read (now (words .entry)) at (now (tree .entry)) (now (tree .exit)) r ⌝ }

@@ -59,7 +59,7 @@ pub enum Binder {
 
 #[derive(Clone, Copy)]
 pub enum Construct {
-    // no construct: what a look past the end gives
+    // no construct: what a look gives past the end, and where a construct would not stand after the nodes that it names
     Missing,
     // a written type; its parts are a range of the table of parts
     BasicType(Basic),
@@ -131,7 +131,7 @@ pub struct Tree {
 }
 
 impl Tree {
-    // An empty tree with room for the listings of up to `words` words.
+    // A tree with the type qbit and its pair alone, and room for listings of up to `words` words.
     pub fn room(heap: Global, words: usize) -> Result<Tree, AllocError>
         ensures { λ r. ⌜ made r (λ t. parsing.Fresh t words) ⌝ }
     {
