@@ -1,3 +1,5 @@
+#![tactic(auto)]
+
 // The program: standard input to standard output.
 ghost use Rattle.std.specs.Prelude.{◌≤◌, length, IfOk};
 

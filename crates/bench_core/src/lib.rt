@@ -1,3 +1,5 @@
+#![tactic(auto)]
+
 pub mod bench;
 mod report;
 pub mod session;

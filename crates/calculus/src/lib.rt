@@ -1,3 +1,5 @@
+#![tactic(auto)]
+
 // The calculus of listings: types, values, terms, typing rules, need and steps stand in specs/. Each function here names laws that they satisfy, and does nothing.
 ghost use Rattle.calculus.specs.Room.{Room, BodiesFound};
 ghost use Rattle.calculus.specs.Runs.{OrdersCounted, Safety, SafetyKept, Soundness};

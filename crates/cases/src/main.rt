@@ -1,3 +1,5 @@
+#![tactic(auto)]
+
 // Runs the listings of data/: for each file that the arguments name, prints its name and what the bench answers.
 use bench_core::session::respond;
 use std::io::Write;

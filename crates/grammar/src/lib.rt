@@ -1,2 +1,4 @@
+#![tactic(auto)]
+
 pub mod parse;
 pub mod tree;

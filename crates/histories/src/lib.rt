@@ -1,3 +1,5 @@
+#![tactic(auto)]
+
 // Histories of a bench: what its calls do, and what holds after each, stand in specs/. Each function here names a law, and does nothing.
 ghost use Rattle.histories.specs.Laws.{HistoriesSound, CallsKeep, OpenKeeps, RunsEnd, ValuesTyped};
 

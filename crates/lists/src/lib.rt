@@ -1,1 +1,3 @@
+#![tactic(auto)]
+
 // Laws on lists that hold at most so many elements.

@@ -1,3 +1,5 @@
+#![tactic(auto)]
+
 // Tests of the script machine and the coin machine.
 #[cfg(test)]
 mod coins;

@@ -1,3 +1,5 @@
+#![tactic(auto)]
+
 // The need of a program: the steps and the peak of its run term.
 use grammar::tree::Range;
 use rules::program::{Act, Node, Program};

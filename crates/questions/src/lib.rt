@@ -1,3 +1,5 @@
+#![tactic(auto)]
+
 // The questions of the rules, asked in one walk over a listing, stand in specs/. Each function here names what is proved of them, and does nothing.
 ghost use Rattle.questions.specs.Laws.{Sound, Complete, Exact, RefusedUnnamed, RefusedUntyped, MarksOnly};
 ghost use Rattle.questions.specs.Listings.{Verdicts, Worked};

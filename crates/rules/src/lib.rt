@@ -1,3 +1,5 @@
+#![tactic(auto)]
+
 pub mod checker;
 pub mod fault;
 pub mod program;

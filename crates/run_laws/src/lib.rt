@@ -1,3 +1,5 @@
+#![tactic(auto)]
+
 // The argument that each step of a run is a step of what is left: the definitions stand in specs/. Each function here names laws that they satisfy, and does nothing.
 ghost use Rattle.run_laws.specs.Laws.{ConstantStep, NameStep, UsingStep, PatternFits, BindStep, IfFits, IfStep};
 ghost use Rattle.run_laws.specs.Laws.{DownPart, DownBind, DownIf, OnPart, NoneReady, LastReady};

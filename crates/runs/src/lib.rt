@@ -1,3 +1,5 @@
+#![tactic(auto)]
+
 pub mod run;
 pub mod state;
 pub mod value;

@@ -1,1 +1,3 @@
+#![tactic(auto)]
+
 // What a listing is: its syntax trees, its grammar, and a machine that reads its words one by one. The definitions stand in specs/, their laws in proofs/.

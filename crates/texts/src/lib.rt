@@ -1,2 +1,4 @@
+#![tactic(auto)]
+
 pub mod refused;
 pub mod text;

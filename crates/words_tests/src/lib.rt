@@ -1,3 +1,5 @@
+#![tactic(auto)]
+
 // Tests of the words, over tables.
 #[cfg(test)]
 mod tests {

@@ -1,4 +1,4 @@
-use Rattle.std.proofs.Common.{◌≡◌, ◌+◌, min, not, eqb, length, sym, refl, ap, arith}
+use Rattle.std.proofs.Common.{not, eqb, sym, refl, ap, arith}
 use Rattle.std.proofs.lemmas.List.{get_or_past}
 use Rattle.machine.proofs.script.Script.bit.Goals as goal
 
