@@ -5,5 +5,5 @@ use Rattle.machine.proofs.board.Board.new.Goals as goal
 pub returns : goal.returns
 returns c = record { capacity = c.min.ensures ∙ ap (λ x. min x 64) c.max.ensures; live = all_off 64; count = refl; latest = refl }
 
-pub invariant-of-result : goal.invariant-of-result
-invariant-of-result c = (omega arith, (omega arith, (omega arith, (refl, (sym (tally_none _ 64 (all_off 64)), tt)))))
+pub invariant_of-result : goal.invariant_of-result
+invariant_of-result c = record { least = omega arith; most = omega arith; small = omega arith; long = refl; tallied = sym (tally_none _ 64 (all_off 64)) }
