@@ -1,5 +1,5 @@
 -- What an upper layer knows of the words that it was given.
-use Rattle.std.proofs.Common.{◌≡◌, ℕ, suc, ◌≤◌, List, [], ◌∷◌, map, length, sym, refl, ap, ◌∙◌, arith}
+use Rattle.std.proofs.Common.{◌≡◌, ℕ, suc, ◌≤◌, List, [], ◌∷◌, map, length, refl, ap, arith}
 use Rattle.std.specs.List.{AllByRecursion as All}
 use Rattle.words.specs.declared.token.Word.{Word}
 use Rattle.words.specs.Words.{Item, items, seen, words_of}

@@ -1,11 +1,11 @@
 -- The laws of `lex` that a reader uses.
-use Rattle.std.proofs.Common.{◌≡◌, ℕ, zero, suc, ◌+◌, ◌<◌, ◌≤◌, Bool, true, false, cond, List, [], ◌∷◌, ◌++◌, length, get_or, take, drop, Some, None, Option, sym, refl, ap, ◌∙◌, subst, ⊎_elim, add-zero, arith}
+use Rattle.std.proofs.Common.{◌≡◌, ℕ, zero, suc, ◌+◌, ◌<◌, ◌≤◌, Bool, true, false, cond, List, [], ◌∷◌, ◌++◌, length, get_or, take, drop, Some, None, sym, refl, ap, ◌∙◌, subst, ⊎_elim, add-zero, arith}
 use Rattle.std.specs.List.{prefix_len, AllByRecursion as All}
 use Rattle.std.proofs.lemmas.List.{drop_more, drop-drop, drop_all}
 use Rattle.std.proofs.lemmas.Bool.{cases_Bool}
 use Rattle.words.specs.Bytes.{blank, inner}
 use Rattle.words.specs.declared.token.Word.{Word}
-use Rattle.words.specs.Words.{Sort, Item, item, Lexed, items, bad_at, before, begin, sort_of, seen, extent, span, lex, words_from, Means}
+use Rattle.words.specs.Words.{Item, Lexed, items, bad_at, before, begin, sort_of, seen, extent, span, lex, words_from, Means}
 
 -- the bytes of a word that was given already are passed
 pub lex_pass : (at k : ℕ) (bs : List ℕ) → lex at k bs ≡ lex (at + k) 0 (drop k bs)

@@ -1,11 +1,11 @@
 -- One turn of `words`, and its ends.
-use Rattle.std.proofs.Common.{◌≡◌, ℕ, ◌+◌, ◌<◌, ◌≤◌, List, [], ◌∷◌, ◌++◌, map, length, drop, Some, None, Ok, Err, Option, Result, sym, refl, ap, ◌∙◌, subst, append_assoc, append-nil, arith, length-append}
+use Rattle.std.proofs.Common.{◌≡◌, ℕ, ◌+◌, ◌<◌, ◌≤◌, List, [], ◌∷◌, ◌++◌, map, length, drop, Some, None, Ok, Err, Option, Result, sym, ap, ◌∙◌, subst, append_assoc, append-nil, arith, length-append}
 use Rattle.std.proofs.lemmas.List.{map_push}
 use Rattle.words.specs.declared.token.Word.{Word}
 use Rattle.words.specs.declared.token.WordFault.{WordFault}
 use Rattle.words.specs.declared.token.WordFault.TheVariants.{Bad, Memory}
 use Rattle.words.proofs.Lexing.{after, after_push, after_end, after_bad}
-use Rattle.words.specs.Words.{Item, Lexed, items, bad_at, before, seen, words_of, words_from, refused, Worded, Next, Appended, Lexes}
+use Rattle.words.specs.Words.{seen, words_of, words_from, refused, Worded, Next, Appended, Lexes}
 use Rattle.words.proofs.Standing.{Come, read_more, good_left, bad_left}
 
 -- the list `cur` is the list `old` with the words of s before the place `at`, to which the reading has come

@@ -1,15 +1,12 @@
 // The words of a listing: each is a part of the listing with its place.
-ghost use Rattle.std.specs.Prelude.{◌≡◌, Decides};
+ghost use Rattle.std.specs.Prelude.{◌≡◌};
 ghost use Rattle.words.specs.declared.token.WordFault.TheVariants.{Memory};
-ghost use Rattle.std.specs.Cmp.Rules.{comparing};
-ghost use Rattle.std.proofs.Common.{rules};
-ghost use Rattle.std.specs.Cmp as Keys;
 
 use machine::order::Gate;
 use std::alloc::AllocFailed;
 
 // The marks, and the reserved words that are no gate.
-#[derive(Clone, Copy)]
+#[derive(Clone, Copy, PartialEq, Eq)]
 pub enum Kind {
     Open,
     Close,
@@ -35,20 +32,6 @@ pub enum Kind {
     Qbit,
     Zero,
     One,
-}
-
-impl PartialEq for Kind {
-    ghost equals = { λ x y r. Decides r (x ≡ y) };
-
-    ghost laws = { Keys.partial_equiv_from_equiv (Prim.search (comparing, rules)) };
-
-    fn eq(&self, other: &Kind) -> bool {
-        *self as u8 == *other as u8
-    }
-}
-
-impl Eq for Kind {
-    ghost laws = { Prim.search (comparing, rules) };
 }
 
 #[derive(Clone, Copy)]

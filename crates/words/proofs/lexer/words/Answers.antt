@@ -1,4 +1,4 @@
-use Rattle.std.proofs.Common.{◌≡◌, ◌<◌, length, Err, vec_items, sym, refl, ap, ◌∙◌, arith}
+use Rattle.std.proofs.Common.{length, Err, vec_items, refl, ap, ◌∙◌, arith}
 use Rattle.std.proofs.lemmas.Result.{err_from_is_err_and}
 use Rattle.words.proofs.Turns.{at_first, answered, again, less, ends, breaks, fits, full, no_room}
 use Rattle.words.proofs.lexer.words.Goals as goal
@@ -6,38 +6,38 @@ use Rattle.words.proofs.lexer.words.Goals as goal
 pub loop-word-init : goal.loop-word-init
 loop-word-init c = (c.new-reader.ensures.listing, at_first c.args.listing.now c.new-reader.result.place (vec_items c.args.out.now) c.new-reader.ensures.place, omega arith)
 
-pub returns-in-err-word : goal.returns-in-err-word
-returns-in-err-word c =
-    let p = err_from_is_err_and c.from-residual.result c.from-residual.ensures.1 in
+pub returns-in_err-word : goal.returns-in_err-word
+returns-in_err-word c =
+    let p = err_from_is_err_and c.from_residual.result c.from_residual.ensures.1 in
     record {
-      words = breaks c.args.listing.now c.loop-word.reader.listing.now c.loop-word.invariant.0 c.loop-word.reader.place c.next.new.self.place (vec_items c.args.out.now) (vec_items c.loop-word.out) c.loop-word.invariant.1 _ c.in-err-word.ensures.next c.from-residual.result (p.1 ∙ ap Err p.2);
-      memory = λ m. absurd (fits c.args.listing.now c.loop-word.reader.listing.now c.loop-word.invariant.0 c.loop-word.reader.place c.next.new.self.place (vec_items c.args.out.now) (vec_items c.loop-word.out) c.loop-word.invariant.1 _ c.in-err-word.ensures.next c.from-residual.result (p.1 ∙ ap Err p.2) m);
+      words = breaks c.args.listing.now c.loop-word.reader.listing.now c.loop-word.invariant.0 c.loop-word.reader.place c.next.new.self.place (vec_items c.args.out.now) (vec_items c.loop-word.out) c.loop-word.invariant.1 _ c.in_err-word.ensures.next c.from_residual.result (p.1 ∙ ap Err p.2);
+      memory = λ m. absurd (fits c.args.listing.now c.loop-word.reader.listing.now c.loop-word.invariant.0 c.loop-word.reader.place c.next.new.self.place (vec_items c.args.out.now) (vec_items c.loop-word.out) c.loop-word.invariant.1 _ c.in_err-word.ensures.next c.from_residual.result (p.1 ∙ ap Err p.2) m);
     }
 
 pub loop-word-smaller : goal.loop-word-smaller
 loop-word-smaller c =
-    let more = less c.args.listing.now c.loop-word.reader.listing.now c.loop-word.invariant.0 c.loop-word.reader.place c.next.new.self.place (vec_items c.args.out.now) (vec_items c.loop-word.out) c.loop-word.invariant.1 c.in-ok-word.field-0 c.in-Some.word c.in-Some.is c.in-ok-word.ensures.next in
+    let more = less c.args.listing.now c.loop-word.reader.listing.now c.loop-word.invariant.0 c.loop-word.reader.place c.next.new.self.place (vec_items c.args.out.now) (vec_items c.loop-word.out) c.loop-word.invariant.1 c.in_ok-word.field-0 c.in-Some.word c.in-Some.is c.in_ok-word.ensures.next in
     omega (arith, c.next.new.self.within, ap length (c.next.ensures.listing ∙ c.loop-word.invariant.0))
 
 pub loop-word-preserved : goal.loop-word-preserved
 loop-word-preserved c = (
   c.next.ensures.listing ∙ c.loop-word.invariant.0,
-  again c.args.listing.now c.loop-word.reader.listing.now c.loop-word.invariant.0 c.loop-word.reader.place c.next.new.self.place (vec_items c.args.out.now) (vec_items c.loop-word.out) c.loop-word.invariant.1 c.in-ok-word.field-0 c.in-Some.word (vec_items c.push.new.self) c.in-Some.is c.in-ok-word.ensures.next c.in-ok-push.ensures.items,
+  again c.args.listing.now c.loop-word.reader.listing.now c.loop-word.invariant.0 c.loop-word.reader.place c.next.new.self.place (vec_items c.args.out.now) (vec_items c.loop-word.out) c.loop-word.invariant.1 c.in_ok-word.field-0 c.in-Some.word (vec_items c.push.new.self) c.in-Some.is c.in_ok-word.ensures.next c.in_ok-push.ensures.items,
   omega (arith, c.loop-word.invariant.2, c.push.ensures.capacity),
 )
 
-pub returns-in-err-push : goal.returns-in-err-push
-returns-in-err-push c =
-    let p = err_from_is_err_and c.from-residual-in-err-push.result c.from-residual-in-err-push.ensures.1 in
-    let more = less c.args.listing.now c.loop-word.reader.listing.now c.loop-word.invariant.0 c.loop-word.reader.place c.next.new.self.place (vec_items c.args.out.now) (vec_items c.loop-word.out) c.loop-word.invariant.1 c.in-ok-word.field-0 c.in-Some.word c.in-Some.is c.in-ok-word.ensures.next in
-    let room = no_room c.args.listing.now c.loop-word.reader.listing.now c.loop-word.invariant.0 c.loop-word.reader.place c.next.new.self.place (vec_items c.args.out.now) (vec_items c.loop-word.out) c.loop-word.invariant.1 c.args.out.now.cap c.loop-word.out.cap c.loop-word.invariant.2 (omega (arith, c.in-err-push.ensures.full, c.loop-word.out.ok.0)) more (omega (arith, c.next.new.self.within, ap length c.next.ensures.listing)) in
+pub returns-in_err-push : goal.returns-in_err-push
+returns-in_err-push c =
+    let p = err_from_is_err_and c.from_residual-in_err-push.result c.from_residual-in_err-push.ensures.1 in
+    let more = less c.args.listing.now c.loop-word.reader.listing.now c.loop-word.invariant.0 c.loop-word.reader.place c.next.new.self.place (vec_items c.args.out.now) (vec_items c.loop-word.out) c.loop-word.invariant.1 c.in_ok-word.field-0 c.in-Some.word c.in-Some.is c.in_ok-word.ensures.next in
+    let room = no_room c.args.listing.now c.loop-word.reader.listing.now c.loop-word.invariant.0 c.loop-word.reader.place c.next.new.self.place (vec_items c.args.out.now) (vec_items c.loop-word.out) c.loop-word.invariant.1 c.args.out.now.cap c.loop-word.out.cap c.loop-word.invariant.2 (omega (arith, c.in_err-push.ensures.full, c.loop-word.out.ok.0)) more (omega (arith, c.next.new.self.within, ap length c.next.ensures.listing)) in
     record {
-      words = full c.args.listing.now c.loop-word.reader.listing.now c.loop-word.invariant.0 c.loop-word.reader.place c.next.new.self.place (vec_items c.args.out.now) (vec_items c.loop-word.out) c.loop-word.invariant.1 c.in-ok-word.field-0 c.in-Some.word c.in-Some.is c.in-ok-word.ensures.next (vec_items c.push.new.self) c.from-residual-in-err-push.result c.in-err-push.ensures.items (p.1 ∙ ap Err p.2);
+      words = full c.args.listing.now c.loop-word.reader.listing.now c.loop-word.invariant.0 c.loop-word.reader.place c.next.new.self.place (vec_items c.args.out.now) (vec_items c.loop-word.out) c.loop-word.invariant.1 c.in_ok-word.field-0 c.in-Some.word c.in-Some.is c.in_ok-word.ensures.next (vec_items c.push.new.self) c.from_residual-in_err-push.result c.in_err-push.ensures.items (p.1 ∙ ap Err p.2);
       memory = λ m. omega (arith, room, c.args.out.now.ok.0);
     }
 
 pub returns : goal.returns
 returns c = record {
-  words = ends c.args.listing.now c.loop-word.reader.listing.now c.loop-word.invariant.0 c.loop-word.reader.place c.next.new.self.place (vec_items c.args.out.now) (vec_items c.loop-word.out) c.loop-word.invariant.1 c.in-ok-word.field-0 c.in-default.is c.in-ok-word.ensures.next;
+  words = ends c.args.listing.now c.loop-word.reader.listing.now c.loop-word.invariant.0 c.loop-word.reader.place c.next.new.self.place (vec_items c.args.out.now) (vec_items c.loop-word.out) c.loop-word.invariant.1 c.in_ok-word.field-0 c.in_default.is c.in_ok-word.ensures.next;
   memory = λ m. absurd (answered _ refl m);
 }

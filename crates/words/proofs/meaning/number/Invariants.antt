@@ -1,5 +1,5 @@
-use Rattle.std.proofs.Common.{◌≡◌, ◌≤◌, true, drop}
-use Rattle.words.specs.Words.{no_leading_zero, largest}
+use Rattle.std.proofs.Common.{◌≡◌, ◌≤◌, drop}
+use Rattle.words.specs.Words.{largest}
 use Rattle.words.proofs.Numerals.{worth}
 use Rattle.words.proofs.meaning.number.Given as goal
 
