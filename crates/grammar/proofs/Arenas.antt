@@ -1,12 +1,12 @@
 -- What tables stand for, they stand for when they have grown.
-use Rattle.std.proofs.Common.{◌≡◌, ℕ, ◌+◌, ◌<◌, ◌≤◌, List, [], ◌∷◌, ◌++◌, map, length, get_or, sym, refl, ap, ◌∙◌, subst, arith}
+use Rattle.std.proofs.Common.{ℕ, ◌<◌, ◌≤◌, List, ◌++◌, length, ◌∙◌, arith}
 use Rattle.syntax.specs.Trees as s
 use Rattle.grammar.specs.declared.tree.Tree.{Tree}
 use Rattle.grammar.specs.declared.tree.Parameter as parameters
 use Rattle.grammar.specs.declared.tree.Operation as operations
 use Rattle.grammar.specs.Trees.{Falls}
-use Rattle.grammar.specs.Arena.{Node, At, Spells, NamesAt, no_names_at, names_at, TypeAt, basic_at, tuple_type_at, TypesAt, no_types_at, types_at, Stands, constant_at, use_at, call_at, meas_at, gate_at, tuple_at, bind_at, using_at, if_at, PartsAt, no_parts_at, parts_at, ParametersAt, no_parameters_at, parameters_at, OperationAt, OperationsAt, no_operations_at, operations_at}
-use Rattle.grammar.specs.Parsing.{Kept, Grows, nodes_of, parts_of, parameters_of, operations_of}
+use Rattle.grammar.specs.Arena.{Node, At, NamesAt, no_names_at, names_at, TypeAt, basic_at, tuple_type_at, TypesAt, no_types_at, types_at, Stands, constant_at, use_at, call_at, meas_at, gate_at, tuple_at, bind_at, using_at, if_at, PartsAt, no_parts_at, parts_at, ParametersAt, no_parameters_at, parameters_at, OperationAt, OperationsAt, no_operations_at, operations_at}
+use Rattle.grammar.specs.Parsing.{Kept, Grows, nodes_of, parts_of}
 
 pub at_kept : {X : Type 0} {xs ys : List X} {i : ℕ} {x : X} → Kept xs ys → At xs i x → At ys i x
 at_kept {i = i} k (l, h) = (omega (arith, k.longer, l), λ d. k.same i d l ∙ h d)

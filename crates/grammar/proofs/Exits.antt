@@ -1,6 +1,5 @@
 -- The exits of the functions that read terms.
-use Rattle.std.proofs.Common.{◌≡◌, ℕ, ◌+◌, ◌<◌, ◌≤◌, true, false, List, [], ◌∷◌, ◌++◌, length, get_or, drop, Ok, Err, vec_items, vec_len, Result, Vec, sym, refl, ap, ◌∙◌, subst, subst₂, arith}
-use mathlib.Core.Option.{some, none}
+use Rattle.std.proofs.Common.{◌≡◌, ℕ, ◌+◌, ◌<◌, ◌≤◌, true, false, List, [], ◌∷◌, ◌++◌, length, drop, Ok, Err, vec_items, vec_len, Result, Vec, sym, refl, ap, ◌∙◌, subst, subst₂, arith}
 use Rattle.std.specs.declared.alloc.Global.{Global}
 use Rattle.words.specs.declared.token.Kind.{Kind}
 use Rattle.words.specs.declared.token.Kind.TheVariants.{Open, Close, Comma, Let, Mut, Set, Unit, Bit, Int, Qbit}
@@ -16,12 +15,11 @@ use Rattle.syntax.proofs.Ways.{there, through}
 use Rattle.grammar.specs.declared.tree.Binder as binders
 use Rattle.grammar.specs.declared.tree.Tree.{Tree}
 use Rattle.grammar.specs.declared.parse.Stop.{Stop}
-use Rattle.grammar.specs.declared.parse.Stop.TheVariants as stop
 use Rattle.grammar.specs.declared.parse.Read.{Read}
 use Rattle.grammar.specs.Arena.{Node, At, NamesAt, no_names_at, Stands, PartsAt, no_parts_at, parts_at, TypesAt, no_types_at, types_at, TypeAt}
 use Rattle.grammar.specs.Parsing.{Grows, nodes_of, parts_of}
-use Rattle.grammar.specs.Reading.{Quiet, Progress, Halts, Misses, Answers, Expected, IsWord, IsName, keyword, Made, NameRead, MoreNamesRead, TermRead, PlainRead, TermsRead, MoreRead, TypesRead, MoreTypesRead}
-use Rattle.grammar.proofs.Growth.{Path, begins, goes, reads, turns, adds, ends, fails, misses, lacks, base_le, grows_none, grows_then, quiet_all, quiet_then}
+use Rattle.grammar.specs.Reading.{Quiet, Progress, Answers, Expected, IsWord, IsName, keyword, Made, NameRead, MoreNamesRead, TermRead, PlainRead, TermsRead, MoreRead, TypesRead, MoreTypesRead}
+use Rattle.grammar.proofs.Growth.{Path, begins, goes, reads, adds, ends, fails, misses, lacks, base_le, grows_none, grows_then, quiet_all, quiet_then}
 use Rattle.grammar.proofs.Arenas.{names_join, within, type_within, parts_wider, types_wider}
 use Rattle.grammar.proofs.Productions.{names_none, names_next, more_there, more_types_there}
 

@@ -1,8 +1,8 @@
 -- How the reading of a thing goes on: words read, and tables that grow.
-use Rattle.std.proofs.Common.{◌≡◌, ℕ, ◌+◌, ◌<◌, ◌≤◌, List, [], ◌∷◌, ◌++◌, length, get_or, drop, IsErrAnd, Ok, Err, vec_items, vec_capacity, Result, Vec, sym, refl, ap, ◌∙◌, subst, arith}
+use Rattle.std.proofs.Common.{◌≡◌, ℕ, ◌+◌, ◌<◌, ◌≤◌, List, [], ◌∷◌, ◌++◌, length, IsErrAnd, Ok, Err, vec_items, Result, Vec, sym, refl, ◌∙◌, subst, arith}
 use Rattle.std.specs.declared.alloc.Global.{Global}
 use Rattle.words.specs.declared.token.Word.{Word}
-use Rattle.syntax.specs.Machine.{Want, Way, Stops}
+use Rattle.syntax.specs.Machine.{Want, Way}
 use Rattle.syntax.proofs.Ways.{through, on, stops}
 use Rattle.grammar.specs.declared.tree.Tree.{Tree}
 use Rattle.grammar.specs.declared.parse.Stop.{Stop}

@@ -1,5 +1,5 @@
 -- The exits of the functions that read parameters, operations and listings.
-use Rattle.std.proofs.Common.{◌≡◌, ℕ, ◌+◌, ◌<◌, ◌≤◌, true, false, List, [], ◌∷◌, ◌++◌, map, length, get_or, drop, Ok, Err, vec_items, vec_len, vec_capacity, Result, Vec, sym, refl, ap, ◌∙◌, subst, subst₂, arith}
+use Rattle.std.proofs.Common.{◌≡◌, ℕ, ◌+◌, ◌<◌, ◌≤◌, true, false, List, [], ◌∷◌, map, length, get_or, drop, Ok, Err, vec_items, Result, Vec, sym, refl, ap, ◌∙◌, subst, subst₂, arith}
 use Rattle.std.specs.declared.alloc.Global.{Global}
 use Rattle.std.proofs.lemmas.List.{drop_all}
 use Rattle.words.specs.declared.token.Kind.TheVariants.{Close, Comma, Op, Run}
@@ -17,13 +17,11 @@ use Rattle.grammar.specs.declared.tree.Operation as operations
 use Rattle.grammar.specs.declared.tree.Tree.{Tree}
 use Rattle.grammar.specs.declared.parse.Stop.{Stop}
 use Rattle.grammar.specs.declared.parse.Stop.TheVariants as stop
-use Rattle.grammar.specs.declared.parse.GrammarFault.{GrammarFault}
-use Rattle.grammar.specs.declared.parse.GrammarFault.TheVariants as fault
-use Rattle.grammar.specs.Arena.{Node, At, node, Spells, NamesAt, no_names_at, names_at, TypeAt, Stands, ParametersAt, no_parameters_at, parameters_at, OperationAt, OperationsAt, no_operations_at, operations_at}
-use Rattle.grammar.specs.Parsing.{Kept, Grew, Grows, Spare, Room, StandsFor, OperationsFrom, Parsed, nodes_of, parts_of, parameters_of, operations_of, place_or}
-use Rattle.grammar.specs.Reading.{TermRead, SignatureRead, Progress, Halts, Lacks, Expected, Few, Added, ParametersNamed, ParameterRead, MoreParametersRead, ParametersAreRead, OperationRead, ListingRead}
-use Rattle.grammar.proofs.Growth.{Path, begins, goes, reads, turns, ends, fails, misses, grew_none, grew_then, kept_all, kept_then, grows_none, grows_then}
-use Rattle.grammar.proofs.Arenas.{parameters_kept, at_kept, names_kept, parameters_join, operations_join, operation_kept}
+use Rattle.grammar.specs.Arena.{Node, At, node, Spells, NamesAt, no_names_at, names_at, TypeAt, ParametersAt, no_parameters_at, parameters_at, OperationAt, OperationsAt, no_operations_at, operations_at}
+use Rattle.grammar.specs.Parsing.{Kept, Grew, Grows, Parsed, nodes_of, parts_of, parameters_of, place_or}
+use Rattle.grammar.specs.Reading.{TermRead, SignatureRead, Halts, Lacks, Expected, Few, Added, ParametersNamed, ParameterRead, MoreParametersRead, ParametersAreRead, OperationRead, ListingRead}
+use Rattle.grammar.proofs.Growth.{Path, begins, goes, reads, ends, fails, misses, grew_none, grew_then, kept_all, kept_then, grows_none, grows_then}
+use Rattle.grammar.proofs.Arenas.{parameters_kept, at_kept, parameters_join, operations_join}
 use Rattle.grammar.proofs.Productions.{running, no_more_parameters, more_parameters_there, no_parameters_there}
 use Rattle.grammar.proofs.Exits.{is_word}
 

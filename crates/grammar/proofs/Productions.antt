@@ -1,5 +1,5 @@
 -- The productions, over equations of words.
-use Rattle.std.proofs.Common.{◌≡◌, ℕ, List, [], ◌∷◌, sym, refl, ap, ◌∙◌, subst, subst₂}
+use Rattle.std.proofs.Common.{◌≡◌, ℕ, List, [], ◌∷◌, sym, ap, ◌∙◌, subst, subst₂}
 use Rattle.machine.specs.declared.order.Gate as gates
 use Rattle.words.specs.declared.token.Kind.{Kind}
 use Rattle.words.specs.declared.token.Kind.TheVariants.{Open, Close, LeftBrace, RightBrace, Comma, Equals, Colon, Op, Run, Using, In, If, Then, Else, Meas, Unit, Bit, Int, Qbit, Zero, One}

@@ -1,12 +1,10 @@
 -- The words at hand: what a test of a word says.
-use Rattle.std.proofs.Common.{◌≡◌, ℕ, ◌+◌, ◌<◌, ◌≤◌, Bool, true, false, eqb, List, [], ◌∷◌, length, get_or, drop, sym, refl, ap, ◌∙◌}
+use Rattle.std.proofs.Common.{◌≡◌, eqb, refl, ap, ◌∙◌}
 use denote.Enum as enums
 use Rattle.words.specs.declared.token.Kind.{Kind}
 use Rattle.words.specs.declared.token.Kind.TheVariants.{Open, Close, LeftBrace, RightBrace, Comma, Equals, Colon, Op, Run, Let, Mut, Set, Using, In, If, Then, Else, Meas, Unit, Bit, Int, Qbit, Zero, One}
 use Rattle.words.specs.contracts.token.Kind as kinds
-use Rattle.words.specs.declared.token.Word.{Word}
-use Rattle.words.specs.declared.token.Word.TheVariants.{Name, Number, Gate, Fixed}
-use Rattle.syntax.specs.Machine.{index, same, is, heads}
+use Rattle.syntax.specs.Machine.{index, same}
 
 pub tag : (k : Kind) → enums.Declared.tag_of kinds.the_type k ≡ index k
 tag Open = refl

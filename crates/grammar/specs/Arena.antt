@@ -1,5 +1,5 @@
 -- Which syntax tree the tables of nodes, parts, parameters and operations stand for.
-use Rattle.std.specs.Prelude.{◌≡◌, ℕ, ◌+◌, ◌<◌, ◌≤◌, List, [], ◌∷◌, map, length, slice_index_or}
+use Rattle.std.specs.Prelude.{◌≡◌, ℕ, ◌+◌, ◌<◌, List, [], ◌∷◌, map, length, slice_index_or}
 use Rattle.machine.specs.declared.order.Gate as gates
 use Rattle.syntax.specs.Trees as s
 use Rattle.grammar.specs.declared.tree.Name as names

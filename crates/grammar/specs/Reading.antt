@@ -1,11 +1,11 @@
 -- What the functions that read the parts of a listing answer.
-use Rattle.std.specs.Prelude.{◌≡◌, ℕ, ◌+◌, ◌<◌, ◌≤◌, List, [], ◌∷◌, map, length, get_or, drop, Ok, Err, vec_items, vec_capacity, Result, Vec}
+use Rattle.std.specs.Prelude.{◌≡◌, ℕ, ◌+◌, ◌<◌, ◌≤◌, List, [], ◌∷◌, map, length, drop, Ok, Err, Result, Vec}
 use Rattle.std.specs.declared.alloc.Global.{Global}
 use Rattle.machine.specs.declared.order.Gate as gates
 use Rattle.words.specs.declared.token.Kind.{Kind}
 use Rattle.words.specs.declared.token.Kind.TheVariants.{Let, Mut, Set}
 use Rattle.words.specs.declared.token.Word.{Word}
-use Rattle.words.specs.declared.token.Word.TheVariants.{Name, Number, Gate, Fixed}
+use Rattle.words.specs.declared.token.Word.TheVariants.{Name, Gate, Fixed}
 use Rattle.syntax.specs.Trees as s
 use Rattle.syntax.specs.Grammar as g
 use Rattle.syntax.specs.Grammar.{Text, identifier}
@@ -16,7 +16,6 @@ use Rattle.grammar.specs.declared.tree.Binder as binders
 use Rattle.grammar.specs.declared.tree.Form as forms
 use Rattle.grammar.specs.declared.tree.Construct as constructs
 use Rattle.grammar.specs.declared.tree.Node as entries
-use Rattle.grammar.specs.declared.tree.Parameter as parameters
 use Rattle.grammar.specs.declared.tree.Operation as operations
 use Rattle.grammar.specs.declared.tree.Tree.{Tree}
 use Rattle.grammar.specs.declared.parse.Stop.{Stop}
@@ -25,8 +24,8 @@ use Rattle.grammar.specs.declared.parse.Read.{Read}
 use Rattle.grammar.specs.declared.parse.Listed.{Listed}
 use Rattle.grammar.specs.declared.parse.PatternRead.{PatternRead}
 use Rattle.grammar.specs.declared.parse.ParametersRead.{ParametersRead}
-use Rattle.grammar.specs.Arena.{At, node, Spells, identifiers, NamesAt, TypeAt, TypesAt, Stands, PartsAt, ParametersAt, OperationAt, OperationsAt}
-use Rattle.grammar.specs.Parsing.{nodes_of, parts_of, parameters_of, operations_of, Kept, Grew, Grows, Spare, Room, place_or, OperationsFrom, StandsFor}
+use Rattle.grammar.specs.Arena.{At, node, Spells, identifiers, NamesAt, TypeAt, TypesAt, Stands, PartsAt, ParametersAt}
+use Rattle.grammar.specs.Parsing.{nodes_of, parts_of, parameters_of, operations_of, Grew, Grows, Spare, Room, OperationsFrom, StandsFor}
 
 -- What was wanted at the word `at` has come to the word i, where the things ys are still wanted, and the tables have grown by no more entries than words were read.
 pub record Progress (x : Want) (ws : List Word) (at : ℕ) (ys : List Want) (i : ℕ) (t u : Tree) : Type 0 where

@@ -225,7 +225,7 @@ fn pattern(words: &[Word<'_>], at: usize, tree: &mut Tree) -> Result<PatternRead
     })
 }
 
-#[cycle(bind_term_gate_term_if_term_meas_term_more_terms_name_or_call_parenthesis_plain_term_term_terms_using_term)]
+#[cycle(term_readers)]
 fn term(words: &[Word<'_>], at: usize, tree: &mut Tree) -> Result<Read, Stop>
     requires within { at ≤ length words.now }
     ensures { reading.TermRead words.now at tree.old tree.new result }
@@ -249,7 +249,7 @@ fn term(words: &[Word<'_>], at: usize, tree: &mut Tree) -> Result<Read, Stop>
 }
 
 // (let | mut | set) pattern = term in term
-#[cycle(bind_term_gate_term_if_term_meas_term_more_terms_name_or_call_parenthesis_plain_term_term_terms_using_term)]
+#[cycle(term_readers)]
 fn bind_term(words: &[Word<'_>], at: usize, binder: Binder, tree: &mut Tree) -> Result<Read, Stop>
     requires within { at < length words.now }
     requires begins { heads (reading.keyword binder) (drop at words.now) ≡ true }
@@ -271,7 +271,7 @@ fn bind_term(words: &[Word<'_>], at: usize, binder: Binder, tree: &mut Tree) -> 
 }
 
 // using pattern in term
-#[cycle(bind_term_gate_term_if_term_meas_term_more_terms_name_or_call_parenthesis_plain_term_term_terms_using_term)]
+#[cycle(term_readers)]
 fn using_term(words: &[Word<'_>], at: usize, tree: &mut Tree) -> Result<Read, Stop>
     requires within { at < length words.now }
     requires begins { heads Using (drop at words.now) ≡ true }
@@ -289,7 +289,7 @@ fn using_term(words: &[Word<'_>], at: usize, tree: &mut Tree) -> Result<Read, St
 }
 
 // if term then term else term
-#[cycle(bind_term_gate_term_if_term_meas_term_more_terms_name_or_call_parenthesis_plain_term_term_terms_using_term)]
+#[cycle(term_readers)]
 fn if_term(words: &[Word<'_>], at: usize, tree: &mut Tree) -> Result<Read, Stop>
     requires within { at < length words.now }
     requires begins { heads If (drop at words.now) ≡ true }
@@ -309,7 +309,7 @@ fn if_term(words: &[Word<'_>], at: usize, tree: &mut Tree) -> Result<Read, Stop>
     made(tree, place, construct, other.next)
 }
 
-#[cycle(bind_term_gate_term_if_term_meas_term_more_terms_name_or_call_parenthesis_plain_term_term_terms_using_term)]
+#[cycle(term_readers)]
 fn plain_term(words: &[Word<'_>], at: usize, tree: &mut Tree) -> Result<Read, Stop>
     requires within { at ≤ length words.now }
     ensures { reading.PlainRead words.now at tree.old tree.new result }
@@ -350,7 +350,7 @@ fn plain_term(words: &[Word<'_>], at: usize, tree: &mut Tree) -> Result<Read, St
 }
 
 // name, or name ( arguments )
-#[cycle(bind_term_gate_term_if_term_meas_term_more_terms_name_or_call_parenthesis_plain_term_term_terms_using_term)]
+#[cycle(term_readers)]
 fn name_or_call(words: &[Word<'_>], at: usize, found: Name, tree: &mut Tree) -> Result<Read, Stop>
     requires within { at < length words.now }
     requires begins { reading.NameHere words.now at found }
@@ -373,7 +373,7 @@ fn name_or_call(words: &[Word<'_>], at: usize, found: Name, tree: &mut Tree) -> 
 }
 
 // gate ( term {, term} )
-#[cycle(bind_term_gate_term_if_term_meas_term_more_terms_name_or_call_parenthesis_plain_term_term_terms_using_term)]
+#[cycle(term_readers)]
 fn gate_term(
     words: &[Word<'_>],
     at: usize,
@@ -391,7 +391,7 @@ fn gate_term(
 }
 
 // meas ( term )
-#[cycle(bind_term_gate_term_if_term_meas_term_more_terms_name_or_call_parenthesis_plain_term_term_terms_using_term)]
+#[cycle(term_readers)]
 fn meas_term(words: &[Word<'_>], at: usize, tree: &mut Tree) -> Result<Read, Stop>
     requires within { at < length words.now }
     requires begins { heads Meas (drop at words.now) ≡ true }
@@ -408,7 +408,7 @@ fn meas_term(words: &[Word<'_>], at: usize, tree: &mut Tree) -> Result<Read, Sto
 }
 
 // ( ), ( term ), or ( term , term {, term} )
-#[cycle(bind_term_gate_term_if_term_meas_term_more_terms_name_or_call_parenthesis_plain_term_term_terms_using_term)]
+#[cycle(term_readers)]
 fn parenthesis(words: &[Word<'_>], at: usize, tree: &mut Tree) -> Result<Read, Stop>
     requires within { at < length words.now }
     requires begins { heads Open (drop at words.now) ≡ true }
@@ -441,7 +441,7 @@ fn built(tree: &mut Tree, place: usize, form: Form, given: Listed) -> Result<Rea
 }
 
 // term {, term} )
-#[cycle(bind_term_gate_term_if_term_meas_term_more_terms_name_or_call_parenthesis_plain_term_term_terms_using_term)]
+#[cycle(term_readers)]
 fn terms(words: &[Word<'_>], at: usize, tree: &mut Tree) -> Result<Listed, Stop>
     requires within { at ≤ length words.now }
     ensures { reading.TermsRead words.now at tree.old tree.new result }
@@ -453,7 +453,7 @@ fn terms(words: &[Word<'_>], at: usize, tree: &mut Tree) -> Result<Listed, Stop>
 }
 
 // {, term} )
-#[cycle(bind_term_gate_term_if_term_meas_term_more_terms_name_or_call_parenthesis_plain_term_term_terms_using_term)]
+#[cycle(term_readers)]
 fn more_terms(words: &[Word<'_>], at: usize, tree: &mut Tree) -> Result<Listed, Stop>
     requires within { at ≤ length words.now }
     ensures { reading.MoreRead words.now at tree.old tree.new result }
@@ -467,7 +467,7 @@ fn more_terms(words: &[Word<'_>], at: usize, tree: &mut Tree) -> Result<Listed, 
 }
 
 // unit, bit, int, qbit, or ( type , type {, type} )
-#[cycle(more_types_written_type_written_types)]
+#[cycle(type_readers)]
 fn written_type(words: &[Word<'_>], at: usize, tree: &mut Tree) -> Result<Read, Stop>
     requires within { at ≤ length words.now }
     ensures { reading.TypeRead words.now at tree.old tree.new result }
@@ -499,7 +499,7 @@ fn written_type(words: &[Word<'_>], at: usize, tree: &mut Tree) -> Result<Read, 
 }
 
 // type {, type} )
-#[cycle(more_types_written_type_written_types)]
+#[cycle(type_readers)]
 fn written_types(words: &[Word<'_>], at: usize, tree: &mut Tree) -> Result<Listed, Stop>
     requires within { at ≤ length words.now }
     ensures { reading.TypesRead words.now at tree.old tree.new result }
@@ -511,7 +511,7 @@ fn written_types(words: &[Word<'_>], at: usize, tree: &mut Tree) -> Result<Liste
 }
 
 // {, type} )
-#[cycle(more_types_written_type_written_types)]
+#[cycle(type_readers)]
 fn more_types(words: &[Word<'_>], at: usize, tree: &mut Tree) -> Result<Listed, Stop>
     requires within { at ≤ length words.now }
     ensures { reading.MoreTypesRead words.now at tree.old tree.new result }

@@ -3,11 +3,11 @@ use Rattle.std.proofs.Common.{◌≡◌, ℕ, suc, ◌+◌, ◌≤◌, Bool, tru
 use mathlib.Core.Option.{none, some}
 use Rattle.syntax.specs.Trees.{Identifier, Pattern as Tree-pattern, Tree, Trees}
 use Rattle.calculus.specs.Syntax.{Ty, bit, qbit, tuple, Tys, leaves_all, linear, Name, var, entry, handle, Pattern, names, Op, Term, Terms}
-use Rattle.calculus.specs.Rules.{Uses, once, Same, Divides, spent, Binding, settable, type, Scope, extend, NoVar, Spread, qbits, nth, MaySet, may_none, may_more, Has, has_give}
+use Rattle.calculus.specs.Rules.{Uses, Same, Divides, spent, Binding, settable, type, Scope, extend, NoVar, Spread, qbits, nth, MaySet, may_none, may_more, Has, has_give}
 use Rattle.calculus.specs.Rules.{has_name, has_build, has_bind, has_mut, has_set, has_using, has_if, Parts, parts_none, parts_more, Under, under_none, under_more}
 use Rattle.calculus.proofs.Names.{never, is_refl}
 use Rattle.questions.specs.Names.{find, among}
-use Rattle.questions.specs.Types.{same, few}
+use Rattle.questions.specs.Types.{few}
 use Rattle.questions.specs.Questions.{few_leaves, is_new, is_known, is_above, is_unspent, is_inside, types_fit, is_settable, branches_agree, all_spent, Known, typed, asks}
 use Rattle.questions.specs.Walk.{Signature, op_names, bytes_of, identifiers, mark, one_each, spread, bring, outer, without, open_first, first_open, targets, agree, names_of, ask}
 use Rattle.questions.specs.Walk.{ask_all, first_taken, use_name, close}

@@ -5,7 +5,7 @@ use mathlib.Core.Option.{none, some}
 use Rattle.machine.specs.Orders.{width}
 use Rattle.syntax.specs.Trees.{Identifier, Constant, unit as unit-constant, zero_bit, one_bit, number as number-constant, Pattern as Tree-pattern, Tree, Trees}
 use Rattle.calculus.specs.Syntax.{Ty, unit, bit, int, qbit, tuple, Tys, no_types, ◌∷ᵗ◌, leaves, linear, Name, var, type_of, Pattern, names, Op, Term, Terms}
-use Rattle.calculus.specs.Rules.{Uses, nothing, once, Same, Divides, spent, held, settable, type, Scope, Spread, qbits, nth, MaySet, may_none, may_more, Has, has_give}
+use Rattle.calculus.specs.Rules.{Uses, nothing, once, Same, Divides, held, settable, type, Scope, Spread, qbits, nth, MaySet, may_none, may_more, Has, has_give}
 use Rattle.calculus.specs.Rules.{has_name, has_build, has_bind, has_mut, has_set, has_using, has_if, Parts, parts_none, parts_more, Under, under_none, under_more}
 use Rattle.calculus.proofs.Names.{never}
 use Rattle.questions.specs.Names.{find, among, position}

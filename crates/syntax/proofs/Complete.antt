@@ -1,13 +1,11 @@
 -- What the grammar calls a term is read through, whatever is wanted after it.
-use Rattle.std.proofs.Common.{◌≡◌, ℕ, Bool, true, false, cond, List, [], ◌∷◌, sym, refl, ap, ◌∙◌, append_assoc}
+use Rattle.std.proofs.Common.{◌≡◌, ℕ, Bool, true, false, cond, List, [], ◌∷◌, refl, ap, ◌∙◌, append_assoc}
 use mathlib.Core.Option.{Option, none, some}
-use Rattle.machine.specs.declared.order.Gate as gates
-use Rattle.words.specs.declared.token.Kind.{Kind}
-use Rattle.words.specs.declared.token.Kind.TheVariants.{Open, Close, LeftBrace, RightBrace, Comma, Equals, Colon, Op, Run, Let, Mut, Set, Using, In, If, Then, Else, Meas, Unit, Bit, Int, Qbit, Zero, One}
+use Rattle.words.specs.declared.token.Kind.TheVariants.{Open, Close, Comma, Equals, Colon, Op, Run, Let, Mut, Set, Using, In, If, Unit, Bit, Int, Qbit}
 use Rattle.words.specs.declared.token.Word.{Word}
 use Rattle.words.specs.declared.token.Word.TheVariants.{Name, Number, Gate, Fixed}
-use Rattle.syntax.specs.Trees.{Identifier, Pattern, one, several, Basic, unit_type, bit_type, int_type, qbit_type, Written, basic, tuple_type, Writtens, no_types, ◌∷ʷ◌, Constant, unit, zero_bit, one_bit, number, Binder, by_let, by_mut, by_set, Tree, constant, named, call, meas, apply, tuple, bind, prepare, choose, Trees, no_trees, ◌∷ᵗ◌, Parameter, Operation, Program}
-use Rattle.syntax.specs.Grammar.{Text, identifier, Names, names_end, names_more, Binds, binds_one, binds_several, Writes, is_unit_type, is_bit_type, is_int_type, is_qbit_type, is_tuple_type, WritesAll, some_types, MoreTypes, types_end, types_more, Gives, gives, MoreParameters, parameters_end, parameters_more, Parameters, no_parameters, some_parameters, Term, let_in, mut_in, set_in, using_in, if_else, plain_term, Binding, binding, Plain, is_zero, is_one, is_number, is_name, is_call, is_meas, is_gate, is_unit, is_group, is_tuple, Arguments, no_arguments, some_arguments, Terms, some_terms, More, more_end, more_next, Declares, declares, Lists, run_term, operation_first, Listing, Begins, Continues, Refused}
+use Rattle.syntax.specs.Trees.{Identifier, Pattern, Written, Writtens, Tree, Trees, Parameter, Operation, Program}
+use Rattle.syntax.specs.Grammar.{Names, names_end, names_more, Binds, binds_one, binds_several, Writes, is_unit_type, is_bit_type, is_int_type, is_qbit_type, is_tuple_type, WritesAll, some_types, MoreTypes, types_end, types_more, Gives, gives, MoreParameters, parameters_end, parameters_more, Parameters, no_parameters, some_parameters, Term, let_in, mut_in, set_in, using_in, if_else, plain_term, Binding, binding, Plain, is_zero, is_one, is_number, is_name, is_call, is_meas, is_gate, is_unit, is_group, is_tuple, Arguments, no_arguments, some_arguments, Terms, some_terms, More, more_end, more_next, Declares, declares, Lists, run_term, operation_first, Listing}
 use Rattle.syntax.specs.Machine as m
 use Rattle.syntax.specs.Machine.{Want, run, heads, accepted}
 

@@ -1,10 +1,9 @@
 -- Where reading is stuck: the words before continue some listing, the word there continues none.
-use Rattle.std.proofs.Common.{◌≡◌, ℕ, zero, suc, ◌+◌, ◌-◌, ◌<◌, ◌≤◌, Bool, true, false, cond, List, [], ◌∷◌, ◌++◌, length, get_or, take, drop, sym, refl, ap, ◌∙◌, subst, add-one, arith, length-drop}
+use Rattle.std.proofs.Common.{◌≡◌, ℕ, zero, suc, ◌+◌, ◌<◌, ◌≤◌, Bool, true, false, cond, List, [], ◌∷◌, ◌++◌, length, get_or, take, drop, sym, refl, ap, ◌∙◌, add-one, arith, length-drop}
 use mathlib.Core.Option.{Option, none, some}
 use Rattle.std.proofs.lemmas.List.{drop_more}
 use Rattle.words.specs.declared.token.Word.{Word}
-use Rattle.syntax.specs.Trees.{Program}
-use Rattle.syntax.specs.Grammar.{Listing, Begins, Continues, Refused}
+use Rattle.syntax.specs.Grammar.{Continues, Refused}
 use Rattle.syntax.specs.Machine.{Want, listing, optional, End, accepted, stuck, read, at_end, onward, run}
 use Rattle.syntax.proofs.Sound.{stuck_no, finish, finishes, accepted_listing, some_name}
 use Rattle.syntax.proofs.Complete.{listing_read}

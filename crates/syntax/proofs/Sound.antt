@@ -1,5 +1,5 @@
 -- What is read to the end is a listing, and whatever is wanted can be had.
-use Rattle.std.proofs.Common.{◌≡◌, ℕ, Bool, true, false, cond, eqb, List, [], ◌∷◌, ◌++◌, sym, refl, ap, ◌∙◌, subst, subst₂, true≢false, eq-eqb, eqb-true}
+use Rattle.std.proofs.Common.{◌≡◌, ℕ, Bool, true, false, cond, eqb, List, [], ◌∷◌, ◌++◌, sym, refl, ap, ◌∙◌, subst, subst₂, eq-eqb, eqb-true}
 use mathlib.Core.Bool.{false≢true}
 use mathlib.Core.Option.{Option, none, some}
 use Rattle.machine.specs.declared.order.Gate as gates
@@ -8,9 +8,8 @@ use Rattle.words.specs.declared.token.Kind.TheVariants.{Open, Close, LeftBrace, 
 use Rattle.words.specs.declared.token.Kind.TheVariants as kinds
 use Rattle.words.specs.declared.token.Word.{Word}
 use Rattle.words.specs.declared.token.Word.TheVariants.{Name, Number, Gate, Fixed}
-use Rattle.syntax.specs.Trees.{Identifier, Pattern, one, several, Basic, unit_type, bit_type, int_type, qbit_type, Written, basic, tuple_type, Writtens, no_types, ◌∷ʷ◌, Constant, unit, zero_bit, one_bit, number, Binder, by_let, by_mut, by_set, Tree, constant, named, call, meas, apply, tuple, bind, prepare, choose, Trees, no_trees, ◌∷ᵗ◌, Parameter, Operation, Program}
-use Rattle.syntax.specs.Grammar.{Text, identifier, Names, names_end, names_more, Binds, binds_one, binds_several, Writes, is_unit_type, is_bit_type, is_int_type, is_qbit_type, is_tuple_type, WritesAll, some_types, MoreTypes, types_end, types_more, Gives, gives, MoreParameters, parameters_end, parameters_more, Parameters, no_parameters, some_parameters, Term, let_in, mut_in, set_in, using_in, if_else, plain_term, Binding, binding, Plain, is_zero, is_one, is_number, is_name, is_call, is_meas, is_gate, is_unit, is_group, is_tuple, Arguments, no_arguments, some_arguments, Terms, some_terms, More, more_end, more_next, Declares, declares, Lists, run_term, operation_first, Listing, Begins, Continues, Refused}
-use Rattle.syntax.specs.Machine as m
+use Rattle.syntax.specs.Trees.{Identifier, Pattern, one, several, Written, tuple_type, Writtens, no_types, ◌∷ʷ◌, unit, by_let, by_mut, by_set, Tree, constant, named, call, meas, apply, tuple, bind, prepare, choose, Trees, no_trees, ◌∷ᵗ◌, Parameter, Operation, Program}
+use Rattle.syntax.specs.Grammar.{Text, identifier, Names, names_end, names_more, Binds, binds_one, binds_several, Writes, is_unit_type, is_bit_type, is_int_type, is_qbit_type, is_tuple_type, WritesAll, some_types, MoreTypes, types_end, types_more, Gives, gives, MoreParameters, parameters_end, parameters_more, Parameters, no_parameters, some_parameters, Term, let_in, mut_in, set_in, using_in, if_else, plain_term, Binding, binding, Plain, is_zero, is_one, is_number, is_name, is_call, is_meas, is_gate, is_unit, is_group, is_tuple, Arguments, no_arguments, some_arguments, Terms, some_terms, More, more_end, more_next, Declares, declares, Lists, run_term, operation_first, Listing}
 use Rattle.syntax.specs.Machine.{Want, this, a_name, pattern, names, a_type, types, more_types, parameter, parameters, more_parameters, term, plain, after_name, arguments, terms, more, after_open, in_parens, operation, listing, End, accepted, stuck, index, same, is, read, expand, optional, take_up, followed, closes_or, bound, term_by, plain_by, type_by, name_by, parameter_by, operation_by, at_end, onward, run}
 
 kind_of : ℕ → Kind

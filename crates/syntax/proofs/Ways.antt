@@ -1,14 +1,13 @@
 -- The ways through what is wanted: from a word to a later one, where other things are wanted.
-use Rattle.std.proofs.Common.{◌≡◌, ℕ, zero, suc, ◌+◌, ◌<◌, ◌≤◌, Bool, true, false, cond, eqb, ◌⊎◌, List, [], ◌∷◌, ◌++◌, length, get_or, drop, sym, refl, ap, ◌∙◌, subst, inl, inr, true≢false, append_assoc, arith, eq-eqb, ne_eqb}
+use Rattle.std.proofs.Common.{◌≡◌, ℕ, ◌+◌, ◌<◌, ◌≤◌, true, false, cond, List, [], ◌∷◌, ◌++◌, length, get_or, drop, sym, refl, ap, ◌∙◌, inl, inr, append_assoc, arith, eq-eqb, ne_eqb}
 use mathlib.Core.Bool.{false≢true}
-use mathlib.Core.Option.{Option, none, some}
+use mathlib.Core.Option.{none, some}
 use Rattle.std.proofs.lemmas.Bool.{cases_lt}
 use Rattle.std.proofs.lemmas.List.{drop_more, drop_all}
 use Rattle.words.specs.declared.token.Kind.{Kind}
-use Rattle.words.specs.declared.token.Kind.TheVariants.{Open, Close, LeftBrace, RightBrace, Comma, Equals, Colon, Op, Run, Let, Mut, Set, Using, In, If, Then, Else, Meas, Unit, Bit, Int, Qbit, Zero, One}
+use Rattle.words.specs.declared.token.Kind.TheVariants.{Open, Close, Comma, Colon, Op, Run, Let, Mut, Set, Using, If, Meas, Unit, Bit, Int, Qbit, Zero, One}
 use Rattle.words.specs.declared.token.Word.{Word}
-use Rattle.words.specs.declared.token.Word.TheVariants.{Name, Number, Gate, Fixed}
-use Rattle.syntax.specs.Trees.{Program}
+use Rattle.words.specs.declared.token.Word.TheVariants.{Fixed}
 use Rattle.syntax.specs.Grammar.{Text, Refused}
 use Rattle.syntax.specs.Machine as m
 use Rattle.syntax.specs.Machine.{Want, this, expand, optional, take_up, onward, read, run, stuck, index, same, is, heads, Way, Stops}

@@ -1,11 +1,11 @@
 -- The grammar: which words are which listing. Each relation says of words ws that they begin with the thing named, and that the words rest follow it.
-use Rattle.std.specs.Prelude.{◌≡◌, ℕ, ◌+◌, ◌<◌, ◌≤◌, List, [], ◌∷◌, ◌++◌, length, take}
+use Rattle.std.specs.Prelude.{ℕ, ◌+◌, ◌<◌, ◌≤◌, List, [], ◌∷◌, ◌++◌, length, take}
 use Rattle.std.specs.Borrow.{Bor}
 use Rattle.machine.specs.declared.order.Gate as gates
 use Rattle.words.specs.declared.token.Kind.TheVariants.{Open, Close, LeftBrace, RightBrace, Comma, Equals, Colon, Op, Run, Let, Mut, Set, Using, In, If, Then, Else, Meas, Unit, Bit, Int, Qbit, Zero, One}
 use Rattle.words.specs.declared.token.Word.{Word}
 use Rattle.words.specs.declared.token.Word.TheVariants.{Name, Number, Gate, Fixed}
-use Rattle.syntax.specs.Trees.{Identifier, Pattern, one, several, Basic, unit_type, bit_type, int_type, qbit_type, Written, basic, tuple_type, Writtens, no_types, ◌∷ʷ◌, Constant, unit, zero_bit, one_bit, number, Binder, by_let, by_mut, by_set, Tree, constant, named, call, meas, apply, tuple, bind, prepare, choose, Trees, no_trees, ◌∷ᵗ◌, Parameter, Operation, Program}
+use Rattle.syntax.specs.Trees.{Identifier, Pattern, one, several, unit_type, bit_type, int_type, qbit_type, Written, basic, tuple_type, Writtens, no_types, ◌∷ʷ◌, unit, zero_bit, one_bit, number, by_let, by_mut, by_set, Tree, constant, named, call, meas, apply, tuple, bind, prepare, choose, Trees, no_trees, ◌∷ᵗ◌, Parameter, Operation, Program}
 
 -- a part of the listing, as a word holds it
 abbrev pub Text : Type 0

@@ -1,5 +1,5 @@
 -- The syntax trees of listings. A place is the byte at which a word begins; a construct has the place of its first word.
-use Rattle.std.specs.Prelude.{ℕ, List, [], ◌∷◌}
+use Rattle.std.specs.Prelude.{ℕ, List}
 use Rattle.machine.specs.declared.order.Gate.{Gate}
 
 -- a name as it is written: its bytes and its place

@@ -1,19 +1,6 @@
-use Rattle.std.proofs.Common.{◌≡◌, ◌+◌, [], ◌∷◌, length, sym, refl, ap, ◌∙◌, subst, arith}
-use Rattle.words.specs.declared.token.Kind.TheVariants.{Open, Close, LeftBrace, RightBrace, Comma, Equals, Colon, Op, Run, Let, Mut, Set, Using, In, If, Then, Else, Meas, Unit, Bit, Int, Qbit, Zero, One}
-use Rattle.words.specs.declared.token.Word.TheVariants as word
-use Rattle.syntax.specs.Trees as s
-use Rattle.syntax.specs.Grammar as g
-use Rattle.syntax.specs.Machine as m
-use Rattle.syntax.specs.Machine.{this, heads}
-use Rattle.syntax.proofs.Ways as w
-use Rattle.grammar.specs.Arena as at
+use Rattle.std.proofs.Common.{sym}
 use Rattle.grammar.specs.Reading as reading
-use Rattle.grammar.proofs.Growth.{begins, goes, reads, turns, adds, ends, fails, misses, lacks, lacks_parts, lacks_parameters, lacks_operations, by, base_le, grows_none, quiet_all, quiet_then}
-use Rattle.grammar.proofs.Arenas as arenas
-use Rattle.grammar.proofs.Arenas.{within, still, still_parts, still_names, still_type, still_types}
-use Rattle.grammar.proofs.Productions as p
-use Rattle.grammar.proofs.Exits as x
-use Rattle.grammar.proofs.Exits.{sized, is_word, finish, steps, gains}
+use Rattle.grammar.proofs.Growth.{fails, by}
 use Rattle.grammar.proofs.parse.parameters.Goals as goal
 use Rattle.grammar.proofs.Headers as h
 use Rattle.grammar.proofs.Headers.{same_size}
@@ -21,8 +8,8 @@ use Rattle.grammar.proofs.Headers.{same_size}
 pub returns-then-holds : goal.returns-then-holds
 returns-then-holds c = h.parameters_none c.args.words.now c.args.at c.args.tree.now (sym c.if-holds.ensures.heads)
 
-pub returns-in-err-next : goal.returns-in-err-next
-returns-in-err-next c = by (reading.ParametersAreRead c.args.words.now c.args.at c.args.tree.now _) c.in-err-next.field-0.0 (fails c.in-err-next.field-0.0 (h.some_path c.args.words.now c.args.at 0 c.args.tree.now c.args.tree.now c.requires.within (sym c.if-holds.ensures.heads)) c.in-err-next.ensures) c.from-residual.result c.from-residual.ensures.1
+pub returns-in_err-next : goal.returns-in_err-next
+returns-in_err-next c = by (reading.ParametersAreRead c.args.words.now c.args.at c.args.tree.now _) c.in_err-next.field-0.0 (fails c.in_err-next.field-0.0 (h.some_path c.args.words.now c.args.at 0 c.args.tree.now c.args.tree.now c.requires.within (sym c.if-holds.ensures.heads)) c.in_err-next.ensures) c.from_residual.result c.from_residual.ensures.1
 
 pub returns : goal.returns
-returns c = h.some_by c.args.words.now c.args.at c.in-ok-next.next c.args.tree.now c.parameter.new.tree c.requires.within (sym c.if-holds.ensures.heads) c.more_parameters.new.tree c.more_parameters.result c.in-ok-next.ensures c.more_parameters.ensures
+returns c = h.some_by c.args.words.now c.args.at c.in_ok-next.next c.args.tree.now c.parameter.new.tree c.requires.within (sym c.if-holds.ensures.heads) c.more_parameters.new.tree c.more_parameters.result c.in_ok-next.ensures c.more_parameters.ensures

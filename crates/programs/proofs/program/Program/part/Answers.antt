@@ -1,7 +1,6 @@
-use Rattle.std.proofs.Common.{sym, ap, arith}
+use Rattle.std.proofs.Common.{sym, arith}
 use Rattle.std.proofs.lemmas.List.{get_or_past}
 use Rattle.programs.specs.Programs.{parts_of}
-use Rattle.programs.specs.declared.program.Placed.{Placed}
 use Rattle.programs.proofs.program.Program.part.Goals as goal
 
 pub returns-else-at-len : goal.returns-else-at-len
