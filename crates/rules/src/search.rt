@@ -104,7 +104,7 @@ pub fn text_of(src: &[u8], name: Name) -> &[u8]
 
 // The first entry whose name has these bytes.
 pub fn find<E: Named>(entries: &[E], src: &[u8], name: &[u8]) -> Option<usize>
-    ensures { result ≡ seek 0 name.now (map (λ e. part src.now (starts e) (spans e)) entries.now) }
+    ensures { result ≡ seek 0 name.now (map (λ e. part src.now (E.starts e) (E.spans e)) entries.now) }
 {
     for (i, e) in entries.iter().enumerate() {
         if is_name(src, e.place(), e.span(), name) {

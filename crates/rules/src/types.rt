@@ -87,7 +87,7 @@ pub fn part_at(parts: &[usize], at: usize) -> usize {
 }
 
 // Are two types equal, the first with at most `left` leaves?
-#[cycle(equal_equal_parts)]
+#[cycle(type_equality)]
 fn equal(types: &[Typed], parts: &[usize], a: usize, b: usize, left: usize) -> bool {
     let other = type_at(types, b).shape;
     match type_at(types, a).shape {
@@ -103,7 +103,7 @@ fn equal(types: &[Typed], parts: &[usize], a: usize, b: usize, left: usize) -> b
 }
 
 // Are two tuples' parts equal at each place? Each part has fewer leaves than the tuple.
-#[cycle(equal_equal_parts)]
+#[cycle(type_equality)]
 fn equal_parts(types: &[Typed], parts: &[usize], these: Range, those: Range, left: usize) -> bool {
     let mut a = these.end;
     let mut b = those.end;

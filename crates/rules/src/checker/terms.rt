@@ -55,7 +55,7 @@ impl Checker {
         Ok(())
     }
 
-    #[cycle(built_if_term_let_term_parts_right_side_set_term_term_using_term)]
+    #[cycle(terms)]
     pub(super) fn term(&mut self, text: &[u8], tree: &Tree, at: usize) -> Result<(), RuleFault> {
         let node = tree.node(at);
         match node.construct {
@@ -94,7 +94,7 @@ impl Checker {
     }
 
     // The parts of a construct, from left to right.
-    #[cycle(built_if_term_let_term_parts_right_side_set_term_term_using_term)]
+    #[cycle(terms)]
     fn parts(
         &mut self,
         text: &[u8],
@@ -113,7 +113,7 @@ impl Checker {
         Ok(())
     }
 
-    #[cycle(built_if_term_let_term_parts_right_side_set_term_term_using_term)]
+    #[cycle(terms)]
     fn built(
         &mut self,
         text: &[u8],
@@ -221,7 +221,7 @@ impl Checker {
         true
     }
 
-    #[cycle(built_if_term_let_term_parts_right_side_set_term_term_using_term)]
+    #[cycle(terms)]
     fn let_term(
         &mut self,
         text: &[u8],
@@ -262,7 +262,7 @@ impl Checker {
         Ok(())
     }
 
-    #[cycle(built_if_term_let_term_parts_right_side_set_term_term_using_term)]
+    #[cycle(terms)]
     fn set_term(
         &mut self,
         text: &[u8],
@@ -294,7 +294,7 @@ impl Checker {
     }
 
     // The right side of a mut or a set: no linear name of the scope around it may be spent there.
-    #[cycle(built_if_term_let_term_parts_right_side_set_term_term_using_term)]
+    #[cycle(terms)]
     fn right_side(&mut self, text: &[u8], tree: &Tree, right: usize) -> Result<(), RuleFault> {
         let floor = self.floor;
         self.floor = self.scope.len();
@@ -303,7 +303,7 @@ impl Checker {
         Ok(())
     }
 
-    #[cycle(built_if_term_let_term_parts_right_side_set_term_term_using_term)]
+    #[cycle(terms)]
     fn using_term(
         &mut self,
         text: &[u8],
@@ -324,7 +324,7 @@ impl Checker {
         Ok(())
     }
 
-    #[cycle(built_if_term_let_term_parts_right_side_set_term_term_using_term)]
+    #[cycle(terms)]
     fn if_term(
         &mut self,
         text: &[u8],
