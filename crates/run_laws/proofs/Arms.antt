@@ -1,22 +1,21 @@
 -- Each move of a run, on what is read from it.
-use Rattle.std.proofs.Common.{◌≡◌, ℕ, zero, suc, ◌+◌, ◌-◌, ◌<◌, ◌≤◌, Bool, true, false, cond, eqb, ltb, List, [], ◌∷◌, ◌++◌, map, length, get_or, take, drop, sym, refl, ap, ◌∙◌, subst, subst₂, arith, ltb-false, ltb-true}
+use Rattle.std.proofs.Common.{◌≡◌, ℕ, zero, suc, ◌+◌, ◌-◌, ◌<◌, ◌≤◌, Bool, true, false, cond, ltb, List, [], ◌∷◌, ◌++◌, map, length, sym, refl, ap, ◌∙◌, subst, arith, ltb-false, ltb-true}
 use mathlib.Core.Option.{Option, none, some}
-use Rattle.machine.specs.Model.{absent, distinct}
 use Rattle.grammar.specs.declared.tree.Range.{Range}
 use Rattle.grammar.specs.declared.tree.Binder.{Binder}
 use Rattle.grammar.specs.declared.tree.Binder.TheVariants.{Let, Mut, Set}
 use Rattle.rules.specs.declared.program.Leaf.{Leaf}
 use Rattle.rules.specs.declared.program.Node.{Node}
-use Rattle.rules.specs.declared.program.Node.TheVariants.{Place as NoTerm, Target, Constant, Use, Built, Bind, Using, If}
-use Rattle.calculus.specs.Syntax.{Name, var, entry, Value, bit_of, handle_of, Values, no_values, ◌∷ᵛ◌, Pattern, names, Place, Op, Term, give, done, name, build, bind, mut, set, using_in, if_else, Terms}
-use Rattle.calculus.specs.Rules.{Scope, nth}
-use Rattle.calculus.specs.Steps.{by_entry, puts, given, Table, written, around, Event, prepares, handle_values, Taken, Each, Clear, Fresh, WholeStep}
+use Rattle.rules.specs.declared.program.Node.TheVariants.{Place as NoTerm, Constant, Use, Bind, Using, If}
+use Rattle.calculus.specs.Syntax.{Value, bit_of, handle_of, Values, names, Place, Op, Term, done, bind, mut, using_in}
+use Rattle.calculus.specs.Rules.{nth}
+use Rattle.calculus.specs.Steps.{by_entry, puts, given, Table, written, around, Event, prepares, handle_values, Taken, Each, Clear, Fresh}
 use Rattle.calculus.specs.Steps.{Step, step_give, step_name, step_bind, step_mut, step_set, step_using, step_if}
-use Rattle.run_laws.specs.Programs.{Code, seen, range, within, meant, entries, pattern, Own, Named, Means, Shape, shape_constant, shape_use, shape_bind, shape_using}
-use Rattle.run_laws.specs.Reads.{Standing, valued, mutable, Env, binds, as_term, as_name, close, closed_bind, items, wrote, Frame, Waits, waits_bind, waits_if, Suits, PartOf, out, visible, Within, Around, inside}
+use Rattle.run_laws.specs.Programs.{Code, seen, range, within, entries, pattern, Own, Named, Means, Shape, shape_constant, shape_use, shape_using}
+use Rattle.run_laws.specs.Reads.{Standing, valued, mutable, Env, as_term, as_name, close, closed_bind, items, wrote, Frame, Waits, waits_bind, waits_if, Within, Around, inside}
 use Rattle.run_laws.specs.Reads.{Tied, entering, finished, Reads, reads_node, reads_value, Went, Typed}
-use Rattle.run_laws.proofs.Closing.{range_above, range_below, range_distinct, range_length, binds_out, Free, all_mutable, puts_values, puts_entries, names_pattern, own_entries}
-use Rattle.run_laws.proofs.Tables.{nth_getD, nth_lt, Below, AllMutable, tied_values, tied_mutables, tied_sets}
+use Rattle.run_laws.proofs.Closing.{range_above, range_distinct, range_length, binds_out, Free, all_mutable, puts_values, puts_entries, names_pattern, own_entries}
+use Rattle.run_laws.proofs.Tables.{Below, AllMutable, tied_values, tied_mutables, tied_sets}
 use Rattle.run_laws.proofs.Frames.{within_lower, within_low, within_at, AllSuit, within_all, moved, middle, around_lower}
 use Rattle.run_laws.proofs.Clear.{none_new, clear_value, clear_shape, clear_around}
 use Rattle.run_laws.proofs.Fits.{no_var_left, if_bit, Takes, bind_fits, bind_many, sets_mutable, entry_names, mapped_taken}

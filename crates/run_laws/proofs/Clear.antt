@@ -1,17 +1,17 @@
 -- The entries that what is left names are those of mut names that are bound now, outside of the node in the middle: a mut's own entries are new.
-use Rattle.std.proofs.Common.{◌≡◌, ℕ, suc, ◌+◌, ◌<◌, ◌≤◌, Bool, true, false, cond, List, [], ◌∷◌, ◌++◌, map, sym, refl, ap, ◌∙◌, subst, arith}
+use Rattle.std.proofs.Common.{◌≡◌, ℕ, ◌<◌, true, List, [], ◌∷◌, map, sym, refl, subst, arith}
 use mathlib.Core.Option.{Option, none, some}
-use Rattle.machine.specs.Model.{absent, distinct}
+use Rattle.machine.specs.Model.{absent}
 use Rattle.grammar.specs.declared.tree.Binder.{Binder}
 use Rattle.grammar.specs.declared.tree.Binder.TheVariants.{Let, Mut, Set}
 use Rattle.rules.specs.declared.program.Node.{Node}
-use Rattle.calculus.specs.Syntax.{Name, var, entry, handle, Value, the_unit, bit_of, int_of, handle_of, tuple_of, Values, no_values, ◌∷ᵛ◌, Place, names}
-use Rattle.calculus.specs.Syntax.{Term, Terms, no_terms, ◌∷ˢ◌}
+use Rattle.calculus.specs.Syntax.{Name, var, entry, handle, Value, the_unit, bit_of, int_of, handle_of, tuple_of, Values, no_values, ◌∷ᵛ◌, Place}
+use Rattle.calculus.specs.Syntax.{Term, Terms}
 use Rattle.calculus.specs.Steps.{Table, EachHeld, EachHeldAll, EachName, Each, EachPart, Clear, Fresh}
 use Rattle.calculus.proofs.Growth.{each}
-use Rattle.run_laws.specs.Programs.{Code, seen, pattern, entries, Shape, shape_constant, shape_use, shape_built, shape_bind, shape_using, shape_if, Listed, listed_none, listed_more}
-use Rattle.run_laws.specs.Reads.{Standing, valued, mutable, Env, as_term, as_name, close, close_all, closed_bind, front, Frame, Waits, waits_part, waits_bind, waits_if, Within, Around, whole, inside, InTable}
-use Rattle.run_laws.specs.Reads.{Tied, Focused, Reads, reads_node, reads_value}
+use Rattle.run_laws.specs.Programs.{Code, seen, entries, Shape, shape_constant, shape_use, shape_built, shape_bind, shape_using, shape_if, Listed, listed_none, listed_more}
+use Rattle.run_laws.specs.Reads.{Standing, valued, mutable, Env, as_term, as_name, close, close_all, closed_bind, front, Frame, Waits, waits_part, waits_bind, waits_if, Around, whole, inside, InTable}
+use Rattle.run_laws.specs.Reads.{Focused, Reads, reads_node, reads_value}
 use Rattle.run_laws.proofs.Closing.{names_pattern, close_bind}
 use Rattle.run_laws.proofs.Frames.{within_at}
 

@@ -1,10 +1,10 @@
 -- What stands for one more name is the same as that put for the name.
-use Rattle.std.proofs.Common.{◌≡◌, ℕ, zero, suc, ◌+◌, ◌<◌, ◌≤◌, Bool, true, false, cond, not, eqb, List, [], ◌∷◌, map, length, sym, refl, ap, ◌∙◌, arith, eq-eqb, ne_eqb, eqb-true}
+use Rattle.std.proofs.Common.{◌≡◌, ℕ, zero, suc, ◌+◌, ◌<◌, ◌≤◌, Bool, true, false, cond, not, eqb, List, [], ◌∷◌, map, length, refl, ap, ◌∙◌, arith, eq-eqb, ne_eqb, eqb-true}
 use mathlib.Core.Option.{Option, none, some}
 use Rattle.machine.specs.Model.{absent, distinct}
-use Rattle.calculus.specs.Syntax.{Name, var, entry, handle, is, Value, Values, no_values, ◌∷ᵛ◌, Pattern, one, several, names, Place}
+use Rattle.calculus.specs.Syntax.{Name, var, entry, handle, Values, no_values, ◌∷ᵛ◌, Pattern, one, several, names, Place}
 use Rattle.calculus.specs.Syntax.{Term, give, done, name, build, bind, mut, set, using_in, if_else, Terms, no_terms, ◌∷ˢ◌}
-use Rattle.calculus.specs.Steps.{Stand, by_value, by_entry, stand_at, put, put_all, puts, given, target, targets}
+use Rattle.calculus.specs.Steps.{by_value, by_entry, stand_at, put, put_all, puts, given, target, targets}
 use Rattle.calculus.proofs.Names.{never, eqb_sym}
 use Rattle.calculus.proofs.Tables.{both_true, not_false}
 use Rattle.rules.specs.declared.program.Node.TheVariants.{Place as NoTerm}

@@ -1,13 +1,12 @@
 -- Which nodes a run can be at, and when it has ended.
-use Rattle.std.proofs.Common.{◌≡◌, ℕ, List, [], ◌∷◌, ◌++◌, sym, refl, ap, ◌∙◌, subst}
+use Rattle.std.proofs.Common.{◌≡◌, ℕ, List, [], ◌∷◌, sym, refl, ap, subst}
 use mathlib.Core.Option.{Option, none, some}
 use Rattle.grammar.specs.declared.tree.Binder.{Binder}
 use Rattle.grammar.specs.declared.tree.Binder.TheVariants.{Let, Mut, Set}
 use Rattle.rules.specs.declared.program.Node.{Node}
 use Rattle.calculus.specs.Syntax.{Value, Place, Term, give, done, name, build, bind, mut, set, using_in, if_else}
 use Rattle.calculus.specs.Steps.{Table}
-use Rattle.calculus.proofs.Names.{never}
-use Rattle.run_laws.specs.Programs.{Code, entries, bind_term, Shape, shape_constant, shape_use, shape_built, shape_bind, shape_using, shape_if}
+use Rattle.run_laws.specs.Programs.{Code, entries, Shape, shape_constant, shape_use, shape_built, shape_bind, shape_using, shape_if}
 use Rattle.run_laws.specs.Reads.{Standing, valued, mutable, Env, as_term, close, closed_bind, Frame, Waits, waits_part, waits_bind, waits_if, Around, whole, inside, Focused, entering, finished, Reads, reads_node, reads_value}
 use Rattle.run_laws.specs.Whole.{IsTerm, HasParts}
 use Rattle.run_laws.proofs.Closing.{close_bind}

@@ -1,5 +1,5 @@
 -- What the type of what is left says of the values that a step meets.
-use Rattle.std.proofs.Common.{◌≡◌, ℕ, zero, suc, ◌+◌, ◌<◌, ◌≤◌, Bool, true, false, List, [], ◌∷◌, map, length, sym, refl, ap, ◌∙◌, subst, subst₂, arith}
+use Rattle.std.proofs.Common.{◌≡◌, ℕ, suc, ◌≤◌, Bool, List, [], ◌∷◌, map, length, sym, refl, ap, ◌∙◌, subst, subst₂, arith}
 use mathlib.Core.Option.{Option, none, some}
 use Rattle.machine.specs.Orders.{width, handle_list}
 use Rattle.machine.specs.declared.order.Gate.{Gate}
@@ -8,9 +8,9 @@ use Rattle.machine.specs.declared.order.Handles.{Handles}
 use Rattle.machine.specs.declared.order.Handles.TheVariants.{One, Two}
 use Rattle.grammar.specs.declared.tree.Binder.{Binder}
 use Rattle.grammar.specs.declared.tree.Binder.TheVariants.{Let, Mut, Set}
-use Rattle.calculus.specs.Syntax.{Ty, bit, qbit, tuple, Tys, no_types, ◌∷ᵗ◌, leaves, Name, var, entry, Value, the_unit, bit_of, int_of, handle_of, tuple_of, Values, no_values, ◌∷ᵛ◌, type_of, types_of, flat, flat_all}
-use Rattle.calculus.specs.Syntax.{Pattern, one, several, names, Form, tupling, meas, gate, call, Place, Op, Term, done, name, build, bind, mut, set, if_else, Terms, no_terms}
-use Rattle.calculus.specs.Rules.{Uses, Binding, settable, Scope, Spread, qbits, most_leaves, Fits, MaySet, may_none, may_more, Has, has_done, has_name, has_build, has_bind, has_mut, has_set, has_if, Parts, Under, under_none, under_more}
+use Rattle.calculus.specs.Syntax.{Ty, bit, qbit, Tys, no_types, ◌∷ᵗ◌, leaves, Name, var, entry, Value, the_unit, bit_of, int_of, handle_of, tuple_of, Values, no_values, ◌∷ᵛ◌, type_of, types_of, flat}
+use Rattle.calculus.specs.Syntax.{Pattern, one, several, Form, tupling, meas, gate, Place, Op, Term, done, name, build, bind, mut, set, if_else, no_terms}
+use Rattle.calculus.specs.Rules.{Uses, Binding, settable, Scope, Spread, qbits, most_leaves, Fits, MaySet, may_none, may_more, Has, has_done, has_name, has_build, has_bind, has_mut, has_set, has_if, Under, under_none, under_more}
 use Rattle.calculus.specs.Steps.{Table, around, Taken, handle_values, none_left}
 use Rattle.calculus.proofs.Names.{never}
 use Rattle.calculus.proofs.Tables.{how_many}

@@ -1,15 +1,15 @@
 -- Frames: a step in the middle is a step of the whole, and what is in the middle has a type.
-use Rattle.std.proofs.Common.{◌≡◌, ℕ, zero, suc, ◌+◌, ◌<◌, ◌≤◌, Bool, true, false, cond, eqb, List, [], ◌∷◌, ◌++◌, map, length, sym, refl, ap, ◌∙◌, subst, arith, eqb-true}
+use Rattle.std.proofs.Common.{◌≡◌, ℕ, ◌<◌, ◌≤◌, Bool, true, false, cond, eqb, List, [], ◌∷◌, refl, ◌∙◌, subst, arith, eqb-true}
 use mathlib.Core.Option.{Option, none, some}
 use Rattle.grammar.specs.declared.tree.Binder.{Binder}
 use Rattle.grammar.specs.declared.tree.Binder.TheVariants.{Let, Mut, Set}
 use Rattle.rules.specs.declared.program.Node.{Node}
-use Rattle.calculus.specs.Syntax.{Ty, Tys, bit, Name, Value, Values, no_values, ◌∷ᵛ◌, Form, Pattern, Place, Op}
-use Rattle.calculus.specs.Syntax.{Term, done, build, bind, mut, set, if_else, Terms, no_terms, ◌∷ˢ◌}
+use Rattle.calculus.specs.Syntax.{Ty, Tys, bit, Name, Value, Values, Form, Pattern, Place, Op}
+use Rattle.calculus.specs.Syntax.{Term, done, build, bind, mut, set, if_else, Terms, ◌∷ˢ◌}
 use Rattle.calculus.specs.Rules.{Uses, Scope, Has, has_build, has_bind, has_mut, has_set, has_if, Parts, parts_more}
 use Rattle.calculus.specs.Steps.{Table, Event, AllDone, one_done, Step, step_parts, step_bind_in, step_mut_in, step_set_in, step_if_in, StepPart, step_first, step_later}
 use Rattle.run_laws.specs.Programs.{Code, entries}
-use Rattle.run_laws.specs.Reads.{Standing, valued, mutable, Env, bound, binds, close, close_all, closed_bind, front, collect, Frame, Waits, waits_part, waits_bind, waits_if}
+use Rattle.run_laws.specs.Reads.{Standing, Env, bound, binds, close, closed_bind, front, collect, Frame, Waits, waits_part, waits_bind, waits_if}
 use Rattle.run_laws.specs.Reads.{Suits, PartOf, out, visible, Within, Around, whole, inside, Typed}
 
 -- what stands for the names

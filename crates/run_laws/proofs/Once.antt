@@ -1,17 +1,17 @@
 -- At most one term is read off a state.
-use Rattle.std.proofs.Common.{◌≡◌, ℕ, zero, suc, ◌+◌, ◌-◌, ◌<◌, ◌≤◌, Bool, true, false, cond, eqb, ltb, List, [], ◌∷◌, ◌++◌, map, length, sym, refl, ap, ◌∙◌, subst, subst₂, arith, ltb-false, ltb-true, ne_eqb}
+use Rattle.std.proofs.Common.{◌≡◌, ℕ, zero, suc, ◌+◌, ◌-◌, ◌<◌, ◌≤◌, Bool, true, false, ltb, List, [], ◌∷◌, ◌++◌, map, length, sym, refl, ap, ◌∙◌, subst, arith, ltb-false, ltb-true, ne_eqb}
 use mathlib.Core.Option.{Option, none, some}
 use Rattle.grammar.specs.declared.tree.Range.{Range}
 use Rattle.grammar.specs.declared.tree.Binder.{Binder}
 use Rattle.grammar.specs.declared.tree.Binder.TheVariants.{Let, Mut, Set}
 use Rattle.rules.specs.declared.program.Node.{Node}
-use Rattle.calculus.specs.Syntax.{Ty, Tys, Name, var, entry, Value, Values, Pattern, names, Form, Place, Op, Term, done, name, build, bind, mut, set, using_in, if_else, Terms, no_terms, ◌∷ˢ◌}
-use Rattle.calculus.specs.Rules.{Uses, Binding, settable, Scope, extend, nth, MaySet, may_none, may_more, Has, has_name, has_build, has_bind, has_mut, has_set, has_using, has_if, Parts, parts_none, parts_more, Under, under_none, under_more}
+use Rattle.calculus.specs.Syntax.{Ty, Tys, Name, var, Value, names, Form, Place, Op, Term, name, build, bind, mut, set, using_in, if_else, Terms, ◌∷ˢ◌}
+use Rattle.calculus.specs.Rules.{Uses, Binding, settable, Scope, extend, nth, MaySet, may_more, Has, has_name, has_build, has_bind, has_mut, has_set, has_using, has_if, Parts, parts_more, Under, under_none, under_more}
 use Rattle.calculus.specs.Steps.{Table, around}
 use Rattle.calculus.proofs.Names.{never}
-use Rattle.run_laws.specs.Programs.{Code, form, range, within, entries, pattern, bind_term, Own, Named, Means, Shape, shape_constant, shape_use, shape_built, shape_bind, shape_using, shape_if, Listed, listed_none, listed_more}
-use Rattle.run_laws.specs.Reads.{Standing, valued, mutable, Env, as_term, as_name, close, close_all, closed_bind, front, Frame, Waits, waits_part, waits_bind, waits_if, Suits, PartOf, out, visible, Within}
-use Rattle.run_laws.specs.Reads.{Around, whole, inside, Tied, Focused, entering, finished, Reads, reads_node, reads_value, Typed}
+use Rattle.run_laws.specs.Programs.{Code, form, range, within, entries, pattern, bind_term, Own, Named, Shape, shape_constant, shape_use, shape_built, shape_bind, shape_using, shape_if, Listed, listed_none, listed_more}
+use Rattle.run_laws.specs.Reads.{Standing, valued, mutable, Env, as_term, as_name, close, close_all, closed_bind, front, Frame, Waits, waits_part, waits_bind, waits_if, Suits, Within}
+use Rattle.run_laws.specs.Reads.{Around, whole, inside, Tied, Focused, Reads, reads_node, reads_value, Typed}
 use Rattle.run_laws.proofs.Closing.{names_pattern, close_bind, own_entries}
 use Rattle.run_laws.proofs.Frames.{within_low, within_at, front_typed, middle}
 

@@ -1,24 +1,23 @@
 -- Going down to a part, on to the next, and what is built once all are values.
-use Rattle.std.proofs.Common.{◌≡◌, ℕ, zero, suc, ◌+◌, ◌-◌, ◌<◌, ◌≤◌, Bool, true, false, List, [], ◌∷◌, ◌++◌, map, reverse, length, take, drop, sym, refl, ap, ◌∙◌, subst, subst₂, arith}
-use Rattle.std.proofs.lemmas.List.{length-take-le, reverse-append, length-reverse}
-use Rattle.machine.specs.Orders.{width, handle_list}
+use Rattle.std.proofs.Common.{◌≡◌, ℕ, ◌-◌, ◌<◌, ◌≤◌, Bool, List, [], ◌∷◌, ◌++◌, reverse, length, take, drop, sym, refl, ap, ◌∙◌, subst, subst₂, arith}
+use Rattle.std.proofs.lemmas.List.{reverse-append}
+use Rattle.machine.specs.Orders.{handle_list}
 use Rattle.machine.specs.declared.order.Gate.{Gate as MachineGate}
 use Rattle.machine.specs.declared.order.Handles.{Handles}
 use Rattle.machine.specs.declared.order.Order.TheVariants.{Applied, Measured}
 use Rattle.grammar.specs.declared.tree.Range.{Range}
 use Rattle.grammar.specs.declared.tree.Binder.{Binder}
 use Rattle.rules.specs.declared.program.Act.{Act}
-use Rattle.rules.specs.declared.program.Act.TheVariants.{Tuple, Meas, Gate, Call}
+use Rattle.rules.specs.declared.program.Act.TheVariants.{Call}
 use Rattle.rules.specs.declared.program.Node.{Node}
 use Rattle.rules.specs.declared.program.Node.TheVariants.{Built, Bind, If}
-use Rattle.rules.specs.declared.program.Root.{Root}
-use Rattle.calculus.specs.Syntax.{Value, bit_of, handle_of, tuple_of, Values, no_values, ◌∷ᵛ◌, flat, Form, tupling, meas, gate, call, Place, Op, Term, done, build, Terms, no_terms, ◌∷ˢ◌}
+use Rattle.calculus.specs.Syntax.{Value, bit_of, handle_of, tuple_of, Values, no_values, ◌∷ᵛ◌, flat, Form, tupling, meas, gate, call, Op, Term, done, build, no_terms}
 use Rattle.calculus.specs.Rules.{most_leaves}
-use Rattle.calculus.specs.Steps.{puts, given, Table, around, Event, handle_values, joined, Acts, acts_tuple, acts_meas, acts_gate, acts_call, none_left, Step, step_build}
-use Rattle.run_laws.specs.Programs.{Code, form, range, within, entries, bind_term, Means, Shape, shape_built, shape_bind, shape_if, Listed, listed_none, listed_more, Called, Resolved}
-use Rattle.run_laws.specs.Reads.{Env, bare, close, close_all, closed_bind, front, collect, items, wrote, Frame, Waits, waits_part, waits_bind, waits_if, out, Within, Around, inside}
+use Rattle.calculus.specs.Steps.{puts, given, Table, around, handle_values, joined, Acts, acts_tuple, acts_meas, acts_gate, acts_call, none_left, Step, step_build}
+use Rattle.run_laws.specs.Programs.{Code, form, range, within, entries, Means, Shape, shape_built, shape_bind, shape_if, listed_none, listed_more, Resolved}
+use Rattle.run_laws.specs.Reads.{Env, bare, close, front, collect, items, wrote, Frame, Waits, waits_part, waits_bind, waits_if, out, Within, Around, inside}
 use Rattle.run_laws.specs.Reads.{Tied, entering, finished, Reads, reads_node, reads_value, Went, Ready, Typed}
-use Rattle.run_laws.proofs.Closing.{close_bare, close_bind, range_length}
+use Rattle.run_laws.proofs.Closing.{close_bare, close_bind}
 use Rattle.run_laws.proofs.Frames.{within_lower, front_done, middle}
 use Rattle.run_laws.proofs.Fits.{Handled, meas_one, gate_some, tuple_few}
 use Rattle.run_laws.proofs.Arms.{shape_at, waits_at, waits_back, is_node, settles, enters_values}

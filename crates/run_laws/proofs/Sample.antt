@@ -1,16 +1,13 @@
 -- The sample meets what is asked of a program.
-use Rattle.std.proofs.Common.{◌≡◌, ℕ, zero, suc, ◌+◌, ◌<◌, ◌≤◌, Bool, true, false, eqb, List, [], ◌∷◌, get_or, sym, refl, ap, ◌∙◌, subst, subst₂, arith}
-use mathlib.Core.Option.{some}
+use Rattle.std.proofs.Common.{◌≡◌, ℕ, zero, suc, ◌<◌, ◌≤◌, Bool, true, false, eqb, [], ◌∷◌, get_or, sym, refl, ap, subst, subst₂, arith}
 use Rattle.grammar.specs.declared.tree.Range.{Range}
 use Rattle.rules.specs.declared.program.Act.{Act}
-use Rattle.rules.specs.declared.program.Act.TheVariants.{Meas, Call}
 use Rattle.rules.specs.declared.program.Node.TheVariants.{Place as NoTerm, Built}
-use Rattle.rules.specs.declared.program.Root.{Root}
-use Rattle.calculus.specs.Syntax.{bit, qbit, no_types, ◌∷ᵗ◌, var, Op, Term, name, build, meas, no_terms, ◌∷ˢ◌}
-use Rattle.calculus.specs.Rules.{nothing, nowhere, once, fixed, settable, nth, may_none, may_more, Has, has_give, has_name, has_build, has_bind, has_mut, has_set, has_using, parts_none, parts_more, Under, under_none, under_more, Well}
+use Rattle.calculus.specs.Syntax.{bit, qbit, no_types, ◌∷ᵗ◌, var, Op}
+use Rattle.calculus.specs.Rules.{nothing, nowhere, once, fixed, settable, may_none, may_more, Has, has_give, has_name, has_build, has_bind, has_mut, has_set, has_using, parts_none, parts_more, Under, under_none, under_more, Well}
 use Rattle.calculus.proofs.Names.{never}
 use Rattle.run_laws.specs.Programs.{Code, Own, Means, shape_constant, shape_use, shape_built, shape_bind, shape_using, listed_none, listed_more, Called, Resolved, Ordered, PairedTuples}
-use Rattle.run_laws.specs.Sample.{from_to, sample_nodes, sample_node, sample_op, sample_run, Sample}
+use Rattle.run_laws.specs.Sample.{from_to, sample_node, sample_op, sample_run, Sample}
 
 past : (i : ℕ) → 16 ≤ i → sample_node i ≡ NoTerm
 past zero l = absurd (omega (arith, l))

@@ -1,5 +1,5 @@
 -- A value of at most 8 leaves, whose tuples have two parts or more, has at most 15 items.
-use Rattle.std.proofs.Common.{◌≡◌, ℕ, suc, ◌+◌, ◌-◌, ◌≤◌, List, [], ◌∷◌, reverse, length, take, sym, refl, ap, ◌∙◌, arith}
+use Rattle.std.proofs.Common.{◌≡◌, ℕ, suc, ◌+◌, ◌-◌, ◌≤◌, List, [], ◌∷◌, length, take, ap, ◌∙◌, arith}
 use Rattle.std.proofs.lemmas.List.{length-take-le, length-reverse}
 use Rattle.grammar.specs.declared.tree.Range.{Range}
 use Rattle.rules.specs.declared.program.Act.TheVariants.{Tuple}

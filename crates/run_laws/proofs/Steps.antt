@@ -1,25 +1,22 @@
 -- The steps of a run with the machine, in the form in which the code's contracts say them.
-use Rattle.std.proofs.Common.{◌≡◌, ℕ, suc, ◌-◌, ◌<◌, ◌≤◌, Bool, cond, List, [], ◌∷◌, map, reverse, length, get_or, take, drop, sym, refl, ap, ◌∙◌, subst}
+use Rattle.std.proofs.Common.{◌≡◌, ℕ, suc, ◌-◌, ◌≤◌, Bool, cond, List, [], ◌∷◌, map, reverse, length, get_or, take, drop, sym, refl, ◌∙◌, subst}
 use Rattle.machine.specs.Orders.{handle_list}
 use Rattle.machine.specs.Model.{Model, ordered, Does, Makes}
 use Rattle.machine.specs.declared.order.Gate.{Gate}
 use Rattle.machine.specs.declared.order.Handles.{Handles}
-use Rattle.machine.specs.declared.order.Order.{Order}
-use Rattle.machine.specs.declared.order.Order.TheVariants.{Prepared, Applied, Measured}
+use Rattle.machine.specs.declared.order.Order.TheVariants.{Applied, Measured}
 use Rattle.grammar.specs.declared.tree.Range.{Range}
 use Rattle.grammar.specs.declared.tree.Binder.{Binder}
 use Rattle.rules.specs.declared.program.Leaf.{Leaf}
 use Rattle.rules.specs.declared.program.Act.{Act}
 use Rattle.rules.specs.declared.program.Act.TheVariants.{Call}
 use Rattle.rules.specs.declared.program.Node.TheVariants.{Constant, Use, Built, Bind, Using, If}
-use Rattle.rules.specs.declared.program.Root.{Root}
 use Rattle.calculus.specs.Syntax.{Ty, Value, bit_of, handle_of, tuple_of, Values, no_values, ◌∷ᵛ◌, tupling, meas, gate, call, Op, Term}
-use Rattle.calculus.specs.Rules.{nth}
 use Rattle.calculus.specs.Steps.{Table, around, prepares, handle_values, joined, Taken}
 use Rattle.calculus.specs.Runs.{live_names, Sound}
 use Rattle.run_laws.specs.Programs.{Code, seen, form, within, entries, pattern}
-use Rattle.run_laws.specs.Reads.{Frame, Focused, entering, finished, collect, items, wrote, Reads, Ready, Went, Typed}
-use Rattle.run_laws.specs.Whole.{Compiled, PreparedFor, Stands, Relies, Stepped, Goes, ActsOn}
+use Rattle.run_laws.specs.Reads.{Frame, Focused, entering, finished, collect, items, wrote, Reads, Went, Typed}
+use Rattle.run_laws.specs.Whole.{Compiled, PreparedFor, Stands, Goes, ActsOn}
 use Rattle.run_laws.proofs.Tables.{nth_getD}
 use Rattle.run_laws.proofs.Arms.{constant_goes, name_goes, using_goes, bind_goes, if_goes}
 use Rattle.run_laws.proofs.Parts.{none_ready, last_ready, tuple_goes, meas_goes, gate_goes, call_goes}

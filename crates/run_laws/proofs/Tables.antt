@@ -1,6 +1,6 @@
 -- The run's own table and the table of what is left.
-use Rattle.std.proofs.Common.{◌≡◌, ℕ, zero, suc, ◌+◌, ◌<◌, ◌≤◌, Bool, true, false, cond, not, eqb, List, [], ◌∷◌, map, length, get_or, set as put_at, sym, refl, ap, ◌∙◌, subst, arith, eq-eqb, ne_eqb, eqb-true}
-use mathlib.Core.Option.{Option, none, some}
+use Rattle.std.proofs.Common.{◌≡◌, ℕ, zero, suc, ◌<◌, Bool, true, false, cond, not, eqb, List, [], ◌∷◌, map, length, get_or, set as put_at, sym, refl, ap, ◌∙◌, subst, arith, eq-eqb, ne_eqb, eqb-true}
+use mathlib.Core.Option.{some}
 use borrow.Author.Tests.{eqb-false}
 use Rattle.machine.specs.Model.{absent, distinct}
 use Rattle.calculus.specs.Syntax.{Value, Values, no_values, ◌∷ᵛ◌}
@@ -8,7 +8,7 @@ use Rattle.calculus.specs.Rules.{nth}
 use Rattle.calculus.specs.Steps.{Table, write, written}
 use Rattle.calculus.proofs.Names.{never, eqb_sym}
 use Rattle.calculus.proofs.Tables.{both_true, not_false}
-use Rattle.run_laws.specs.Reads.{Standing, valued, mutable, Env, bound, binds, items, wrote, Tied}
+use Rattle.run_laws.specs.Reads.{valued, mutable, Env, bound, binds, items, wrote, Tied}
 use Rattle.run_laws.proofs.Closing.{all_mutable}
 
 pub nth_lt : {A : Type 0} (xs : List A) (i : ℕ) (a : A) → nth xs i ≡ some a → i < length xs

@@ -1,20 +1,19 @@
 -- Along a run: what is left stays typed, so each step finds what it needs, and the machine accepts its orders.
-use Rattle.std.proofs.Common.{◌≡◌, ℕ, zero, suc, ◌+◌, ◌-◌, ◌<◌, ◌≤◌, Bool, true, false, List, [], ◌∷◌, ◌++◌, map, length, take, drop, sym, refl, ap, ◌∙◌, subst, arith}
+use Rattle.std.proofs.Common.{◌≡◌, ℕ, zero, suc, ◌+◌, ◌-◌, ◌<◌, ◌≤◌, true, List, [], ◌∷◌, ◌++◌, map, length, take, sym, refl, ap, ◌∙◌, subst, arith}
 use Rattle.machine.specs.Model.{Model, ordered, Does, Makes, every, distinct}
 use Rattle.machine.specs.Orders.{width, handle_list}
 use Rattle.machine.specs.declared.order.Gate.{Gate}
 use Rattle.machine.specs.declared.order.Handles.{Handles}
-use Rattle.machine.specs.declared.order.Order.TheVariants.{Prepared, Applied, Measured}
+use Rattle.machine.specs.declared.order.Order.TheVariants.{Prepared}
 use Rattle.grammar.specs.declared.tree.Range.{Range}
 use Rattle.rules.specs.declared.program.Node.TheVariants.{Using}
-use Rattle.calculus.specs.Syntax.{Ty, Value, handle_of, Values, no_values, ◌∷ᵛ◌, meas, gate, Place, Op, Term}
-use Rattle.calculus.specs.Rules.{Has, Well}
+use Rattle.calculus.specs.Syntax.{Ty, Value, handle_of, no_values, ◌∷ᵛ◌, meas, gate, Place, Op, Term}
 use Rattle.calculus.specs.Steps.{Table, empty, around, Event, prepares, handle_values}
-use Rattle.calculus.specs.Runs.{live_names, live_count, Accepts, AcceptsAll, RunStep, Reached, at_start, onward, Sound}
+use Rattle.calculus.specs.Runs.{live_names, live_count, AcceptsAll, at_start, onward, Sound}
 use Rattle.calculus.proofs.Names.{never}
 use Rattle.calculus.proofs.Soundness.{soundness}
 use Rattle.run_laws.specs.Programs.{Code, Means}
-use Rattle.run_laws.specs.Reads.{Env, bare, Frame, Focused, entering, finished, out, whole, Tied, Reads, reads_node, collect, Ready, Went, Typed}
+use Rattle.run_laws.specs.Reads.{bare, Frame, Focused, entering, out, whole, Reads, reads_node, collect, Ready, Went, Typed}
 use Rattle.run_laws.specs.Whole.{Compiled, PreparedFor, Stands}
 use Rattle.run_laws.proofs.Closing.{close_bare}
 use Rattle.run_laws.proofs.Arms.{using_goes}

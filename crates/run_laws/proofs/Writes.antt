@@ -1,5 +1,5 @@
 -- Writes of a run, one after the other.
-use Rattle.std.proofs.Common.{◌≡◌, ℕ, zero, suc, ◌+◌, List, [], ◌∷◌, ◌++◌, map, length, set as put_at, sym, refl, ap, ◌∙◌, arith}
+use Rattle.std.proofs.Common.{◌≡◌, ℕ, zero, suc, ◌+◌, List, [], ◌∷◌, ◌++◌, map, length, set as put_at, refl, ap, ◌∙◌, arith}
 use Rattle.calculus.proofs.Names.{never}
 use Rattle.run_laws.specs.Programs.{range}
 use Rattle.run_laws.specs.Reads.{wrote}

@@ -12,8 +12,7 @@ use Rattle.rules.specs.declared.program.Leaf.{Leaf}
 use Rattle.rules.specs.declared.program.Act.{Act}
 use Rattle.rules.specs.declared.program.Act.TheVariants.{Tuple, Call}
 use Rattle.rules.specs.declared.program.Node.TheVariants.{Constant, Use, Built, Bind, Using, If}
-use Rattle.rules.specs.declared.program.Root.{Root}
-use Rattle.calculus.specs.Syntax.{Ty, Name, var, entry, handle, Value, bit_of, handle_of, tuple_of, Values, no_values, ◌∷ᵛ◌, flat, tupling, meas, gate, call, Place, Op, Term, done}
+use Rattle.calculus.specs.Syntax.{Ty, Value, bit_of, handle_of, tuple_of, Values, no_values, ◌∷ᵛ◌, flat, tupling, meas, gate, call, Place, Op, Term, done}
 use Rattle.calculus.specs.Rules.{nth, most_leaves}
 use Rattle.calculus.specs.Steps.{Table, around, Event, prepares, handle_values, joined, Taken, Each}
 use Rattle.calculus.specs.Runs.{live_count, AcceptsAll, Sound}

@@ -12,7 +12,7 @@ use Rattle.rules.specs.declared.program.Act.TheVariants.{Tuple, Meas, Gate, Call
 use Rattle.rules.specs.declared.program.Node.{Node}
 use Rattle.rules.specs.declared.program.Node.TheVariants.{Place as NoTerm, Target, Constant, Use, Built, Bind, Using, If}
 use Rattle.rules.specs.declared.program.Root.{Root}
-use Rattle.calculus.specs.Syntax.{Name, var, Value, the_unit, bit_of, int_of, handle_of, Pattern, one, several, Form, tupling, meas, gate, call, Place, Op}
+use Rattle.calculus.specs.Syntax.{var, Value, the_unit, bit_of, int_of, handle_of, Pattern, one, several, Form, tupling, meas, gate, call, Place, Op}
 use Rattle.calculus.specs.Syntax.{Term, give, name, build, bind, mut, set, using_in, if_else, Terms, no_terms, ◌∷ˢ◌}
 use Rattle.calculus.specs.Rules.{nth}
 

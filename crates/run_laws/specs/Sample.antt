@@ -1,15 +1,13 @@
 -- A listing and its program: an operation that measures its qbit, and
 -- run using q in let b = f (q) in mut y = 0 in set y = b in y
-use Rattle.std.specs.Prelude.{◌≡◌, ℕ, suc, ◌≤◌, Bool, true, false, List, [], ◌∷◌, nat_eq, slice_index, slice_index_or, refl}
+use Rattle.std.specs.Prelude.{◌≡◌, ℕ, ◌≤◌, false, List, [], ◌∷◌, nat_eq, slice_index, slice_index_or}
 use Rattle.grammar.specs.declared.tree.Range.{Range}
 use Rattle.grammar.specs.declared.tree.Binder.TheVariants.{Let, Mut, Set}
 use Rattle.rules.specs.declared.program.Leaf.TheVariants.{Bit}
 use Rattle.rules.specs.declared.program.Act.TheVariants.{Meas, Call}
 use Rattle.rules.specs.declared.program.Node.{Node}
 use Rattle.rules.specs.declared.program.Node.TheVariants.{Place as NoTerm, Target, Constant, Use, Built, Bind, Using}
-use Rattle.rules.specs.declared.program.Root.{Root}
 use Rattle.calculus.specs.Syntax.{bit, qbit, no_types, ◌∷ᵗ◌, var, bit_of, one, meas, call, Op, Term, give, name, build, bind, mut, set, using_in, no_terms, ◌∷ˢ◌}
-use Rattle.run_laws.specs.Programs.{Code}
 use Rattle.run_laws.specs.Whole.{Compiled}
 
 abbrev pub from_to : ℕ → ℕ → Range
