@@ -1,6 +1,6 @@
 -- Passing over the items of a value.
 use Rattle.std.proofs.Common.{◌≡◌, ℕ, zero, suc, ◌+◌, ◌-◌, ◌*◌, ◌<◌, ◌≤◌, min, max, List, [], ◌∷◌, ◌++◌, length, get_or, take, drop, sym, refl, ap, ◌∙◌, ⊎_elim, arith, length-drop, length-take, get_or-drop}
-use Rattle.std.proofs.lemmas.List.{at_drop_more, at_drop_all, take_all, take_more, get_or-take, get_or_past, drop_all, length-append}
+use Rattle.std.proofs.lemmas.List.{at_drop_more, take_all, take_more, get_or-take, get_or_past, drop_all, length-append}
 use Rattle.lists.proofs.Bounded.{fit_whole}
 use Rattle.std.proofs.lemmas.Bool.{cases_lt}
 use Rattle.runs.specs.Items.{unit_item, passed, roomy, Inner}

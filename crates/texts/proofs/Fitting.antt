@@ -1,12 +1,12 @@
 -- Decimals and the refused line, as far as there is room.
-use Rattle.std.proofs.Common.{◌≡◌, ℕ, ◌+◌, ◌/◌, ◌%◌, ◌^◌, ◌<◌, ◌≤◌, min, List, [], ◌∷◌, ◌++◌, length, decimal, sym, refl, ap, ◌∙◌, arith}
+use Rattle.std.proofs.Common.{◌≡◌, ℕ, ◌+◌, ◌/◌, ◌%◌, ◌^◌, ◌<◌, ◌≤◌, List, [], ◌∷◌, ◌++◌, length, decimal, sym, ap, ◌∙◌, arith}
 use Rattle.std.proofs.lemmas.List.{length-append}
 use Rattle.lists.proofs.Bounded.{fit_whole, push_on}
 use Rattle.std.proofs.lemmas.Fmt.{decimal_digit, decimal_step, length-decimal-le}
 use Rattle.faults.specs.declared.fault.Diagnosis.{Diagnosis}
 use Rattle.faults.specs.declared.fault.Layer.{Layer}
 use Rattle.faults.specs.declared.fault.Layer.TheVariants.{Machine, Word, Grammar, Rule, Need, Bench}
-use Rattle.texts.specs.Refused.{layer_word, refused_text, refused_word, blank, line_feed}
+use Rattle.texts.specs.Refused.{layer_word, refused_text}
 use Rattle.texts.specs.Texts.{fitted}
 
 pub push_last : (t u v : List ℕ) (n : ℕ) → 10 ≤ n → n < 2 ^ 64 → u ≡ fitted (t ++ decimal (n / 10)) → v ≡ fitted (u ++ ((48 + n % 10) ∷ [])) → v ≡ fitted (t ++ decimal n)

@@ -13,5 +13,5 @@ loop-at-preserved c =
 pub returns : goal.returns
 returns c =
     let l = held_long c.args.self.now.items c.args.self.now.count c.args.self.now.long c.args.self.now.few in
-    let k = c.loop-at.auto.at_end (omega arith) in
+    let k = c.loop-at.auto.at-end (omega arith) in
     part_end (held c.args.self.now) (held c.loop-at.part) c.args.first c.loop-at.at c.args.end (omega (arith, l, k)) c.loop-at.invariant

@@ -12,7 +12,7 @@ after t c x e = c.push.ensures ∙ ap (λ s. fitted (written s ++ ((48 + c.args.
 pub returns : goal.returns
 returns t c =
     elim c.if-n-ge10.branch [
-      | then-n-ge10 w ↦ push_last (written c.args.self.now) (written w.push-decimal.new.self) (written c.push.new.self) c.args.n (omega (arith, w.if-n-ge10.true)) (omega arith)
-          w.push-decimal.ensures (after t c w.push-decimal.new.self w.self-is)
+      | then-n-ge10 w ↦ push_last (written c.args.self.now) (written w.push_decimal.new.self) (written c.push.new.self) c.args.n (omega (arith, w.if-n-ge10.true)) (omega arith)
+          w.push_decimal.ensures (after t c w.push_decimal.new.self w.self-is)
       | else-n-ge10 w ↦ push_small (written c.args.self.now) (written c.push.new.self) c.args.n (omega (arith, w.if-n-ge10.false)) (after t c c.args.self.now w.self-is)
     ]
