@@ -1,5 +1,5 @@
 -- A text that is copied to the front leaves the rest.
-use Rattle.std.proofs.Common.{◌≡◌, ℕ, List, ◌++◌, length, drop, Ok, Err, Result, sym, ap, ◌∙◌}
+use Rattle.std.proofs.Common.{◌≡◌, ℕ, List, length, drop, Ok, Err, Result, sym, ap, ◌∙◌}
 use Rattle.std.proofs.lemmas.List.{drop_at}
 use Rattle.faults.specs.declared.fault.Fault.{Fault}
 use Rattle.bench_core.specs.Buffers.{Copied, Fronted}

@@ -86,7 +86,7 @@ pub struct Bench<M: Machine + Drop> {
 impl<M: Machine + Drop> Bench<M> {
     // Takes a machine and clears it.
     pub fn open(mut machine: M) -> Bench<M>
-        ensures machine { Clears (model machine) (model result.machine) }
+        ensures machine { Clears (M.model machine) (M.model result.machine) }
         ensures run { result.run ≡ None }
     {
         machine.clear();
@@ -127,7 +127,7 @@ impl<M: Machine + Drop> Bench<M> {
 
     // Ends any run, clears the machine and empties the bench.
     pub fn clear(&mut self)
-        ensures machine { Clears (model self.old.machine) (model self.new.machine) }
+        ensures machine { Clears (M.model self.old.machine) (M.model self.new.machine) }
         ensures run { self.new.run ≡ None }
     {
         self.machine.clear();

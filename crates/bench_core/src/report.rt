@@ -7,7 +7,7 @@ use runs::value::{Item, Value};
 use texts::text::Text;
 
 // The type of a node, one with at most `left` leaves.
-#[cycle(push_type_push_types)]
+#[cycle(type_text)]
 fn push_type(text: &mut Text, program: &Program, node: usize, left: usize) {
     match program.typed(node).shape {
         Type::Unit => text.push_all(b"unit"),
@@ -23,7 +23,7 @@ fn push_type(text: &mut Text, program: &Program, node: usize, left: usize) {
 }
 
 // The types of a tuple's parts; each has fewer leaves than the tuple.
-#[cycle(push_type_push_types)]
+#[cycle(type_text)]
 fn push_types(text: &mut Text, program: &Program, parts: Range, left: usize) {
     let mut part = parts.end;
     while parts.first < part {
@@ -58,7 +58,7 @@ fn push_leaf(text: &mut Text, leaf: Leaf) {
 }
 
 // The part of a value that begins at `from`.
-#[cycle(push_value_push_values)]
+#[cycle(value_text)]
 fn push_value(text: &mut Text, value: &Value, from: usize) {
     match value.item(from) {
         Item::Leaf(leaf) => push_leaf(text, leaf),
@@ -71,7 +71,7 @@ fn push_value(text: &mut Text, value: &Value, from: usize) {
 }
 
 // So many parts of a value, of which the first begins at `first`.
-#[cycle(push_value_push_values)]
+#[cycle(value_text)]
 fn push_values(text: &mut Text, value: &Value, first: usize, count: usize) {
     let mut from = first;
     for part in 0..count {

@@ -1,6 +1,6 @@
 -- The leaves left fall.
 use Rattle.std.proofs.Common.{◌+◌, ◌-◌, ◌*◌}
-use Rattle.bench_core.proofs.report.+push_type_push_types.Given as goal
+use Rattle.bench_core.proofs.report.+type_text.Given as goal
 
 abbrev pub decreases-push_types : goal.decreases-push_types
 decreases-push_types l = 2 * l.left
@@ -8,5 +8,5 @@ decreases-push_types l = 2 * l.left
 abbrev pub decreases-push_type : goal.decreases-push_type
 decreases-push_type l = 2 * l.left + 1
 
-abbrev pub decreases-push-types-loop-part : goal.decreases-push-types-loop-part
-decreases-push-types-loop-part l = l.part - l.parts.first
+abbrev pub decreases-push_types-loop-part : goal.decreases-push_types-loop-part
+decreases-push_types-loop-part l = l.part - l.parts.first
