@@ -1,5 +1,5 @@
 -- A list of which at most so many elements have room: what is put at its end, piece by piece.
-use Rattle.std.proofs.Common.{◌≡◌, ℕ, ◌+◌, ◌<◌, ◌≤◌, List, [], ◌∷◌, ◌++◌, length, get_or, take, set, sym, refl, ap, ◌∙◌, ⊎_elim, append_assoc, append-nil, arith, length-take}
+use Rattle.std.proofs.Common.{◌≡◌, ℕ, ◌+◌, ◌<◌, ◌≤◌, List, [], ◌∷◌, ◌++◌, length, get_or, take, set, sym, ap, ◌∙◌, ⊎_elim, append_assoc, append-nil, arith, length-take}
 use Rattle.std.proofs.lemmas.List.{take_all, take-append-le, take_more_set, take_more, length-append}
 use Rattle.std.proofs.lemmas.Bool.{cases_lt}
 

@@ -1,5 +1,5 @@
 -- Where fewer handles are live than the capacity, the search in the cyclic order finds one that is not live.
-use Rattle.std.proofs.Common.{◌≡◌, ℕ, ◌+◌, ◌-◌, ◌%◌, ◌<◌, ◌≤◌, Bool, true, false, sym, refl, ap, ◌∙◌, subst, ⊎_elim, mod-eq_of_lt, arith}
+use Rattle.std.proofs.Common.{◌≡◌, ℕ, ◌+◌, ◌-◌, ◌%◌, ◌<◌, ◌≤◌, Bool, true, sym, ap, ◌∙◌, subst, ⊎_elim, mod-eq_of_lt, arith}
 use native.Mathlib.Nat.{add-mod_right}
 use Rattle.std.proofs.lemmas.Bool.{cases_lt, both_ways}
 use Rattle.machine.specs.Coins.{FirstFree}

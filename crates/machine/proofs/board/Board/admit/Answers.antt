@@ -1,4 +1,4 @@
-use Rattle.std.proofs.Common.{◌≡◌, sym, arith}
+use Rattle.std.proofs.Common.{sym, arith}
 use Rattle.machine.specs.Boards.{seen}
 use Rattle.machine.proofs.Questions.{one_admitted, two_same, two_admitted}
 use Rattle.machine.proofs.board.Board.admit.Goals as goal

@@ -1,5 +1,4 @@
-use Rattle.std.proofs.Common.{◌≡◌, ℕ, ◌+◌, ◌<◌, Bool, true, false, length, get_or, set, sym, refl, ap, ◌∙◌, arith, length-set}
-use Rattle.machine.specs.Model.{tally}
+use Rattle.std.proofs.Common.{◌<◌, false, get_or, set, refl, arith, length-set}
 use Rattle.machine.proofs.Tally.{live_below, set_with, tally_less}
 use Rattle.machine.proofs.board.Board.measure.Goals as goal
 

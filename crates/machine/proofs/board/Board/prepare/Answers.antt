@@ -1,5 +1,4 @@
-use Rattle.std.proofs.Common.{◌≡◌, ℕ, ◌+◌, ◌<◌, Bool, true, false, length, get_or, set, sym, refl, ap, ◌∙◌, arith, length-set}
-use Rattle.machine.specs.Model.{tally}
+use Rattle.std.proofs.Common.{◌<◌, true, false, length, get_or, set, refl, arith, length-set}
 use Rattle.machine.proofs.Tally.{set_with, tally_more, tally_le}
 use Rattle.machine.proofs.board.Board.prepare.Goals as goal
 
