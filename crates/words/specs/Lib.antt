@@ -1,4 +1,5 @@
 pub mod Bytes
+pub mod Kinds
 pub mod Laws
 pub mod Spellings
 pub mod Words

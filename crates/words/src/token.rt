@@ -1,12 +1,15 @@
 // The words of a listing: each is a part of the listing with its place.
-ghost use Rattle.std.specs.Prelude.{◌≡◌};
+ghost use Rattle.std.specs.Prelude.{◌≡◌, Decides, nat_eq};
+ghost use Rattle.std.specs.Cmp.{nat_eq_equiv, on_equiv, partial_equiv_from_equiv};
+ghost use Rattle.std.specs.Ordering.{on};
+ghost use Rattle.words.specs.Kinds.{kind_number};
 ghost use Rattle.words.specs.declared.token.WordFault.TheVariants.{Memory};
 
 use machine::order::Gate;
 use std::alloc::AllocFailed;
 
 // The marks, and the reserved words that are no gate.
-#[derive(Clone, Copy, PartialEq, Eq)]
+#[derive(Clone, Copy)]
 pub enum Kind {
     Open,
     Close,
@@ -32,6 +35,23 @@ pub enum Kind {
     Qbit,
     Zero,
     One,
+}
+
+impl PartialEq for Kind {
+    ghost eq = { on kind_number nat_eq };
+
+    ghost laws = { partial_equiv_from_equiv (on_equiv kind_number nat_eq_equiv) };
+
+    fn eq(&self, other: &Kind) -> bool
+        ensures by_number { result ≡ on kind_number nat_eq self.now other.now }
+        ensures decides { Decides result (self.now ≡ other.now) }
+    {
+        *self as u8 == *other as u8
+    }
+}
+
+impl Eq for Kind {
+    ghost laws = { on_equiv kind_number nat_eq_equiv };
 }
 
 #[derive(Clone, Copy)]
