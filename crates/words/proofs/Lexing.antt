@@ -1,6 +1,6 @@
 -- The laws of `lex` that a reader uses.
 use Rattle.std.proofs.Common.{◌≡◌, ℕ, zero, suc, ◌+◌, ◌<◌, ◌≤◌, Bool, true, false, cond, List, [], ◌∷◌, ◌++◌, length, get_or, take, drop, Some, None, sym, refl, ap, ◌∙◌, subst, ⊎_elim, add-zero, arith}
-use Rattle.std.specs.List.{prefix_len, AllByRecursion as All}
+use Rattle.std.specs.List.{prefix_len, AllByRecursion}
 use Rattle.std.proofs.lemmas.List.{drop_more, drop-drop, drop_all}
 use Rattle.std.proofs.lemmas.Bool.{cases_Bool}
 use Rattle.words.specs.Bytes.{blank, inner}
@@ -49,12 +49,12 @@ after_leading p (x ∷ xs) =
     (λ (e : p x ≡ false). ap (λ n. prefix_len p (drop n (x ∷ xs))) (leading_no p x xs e) ∙ leading_no p x xs e)
     (cases_Bool (p x))
 
-pub leading_all : (p : ℕ → Bool) (xs : List ℕ) → All (λ x. p x ≡ true) (take (prefix_len p xs) xs)
+pub leading_all : (p : ℕ → Bool) (xs : List ℕ) → AllByRecursion (λ x. p x ≡ true) (take (prefix_len p xs) xs)
 leading_all p [] = tt
 leading_all p (x ∷ xs) =
     ⊎_elim
-    (λ (e : p x ≡ true). subst (λ n. All (λ y. p y ≡ true) (take n (x ∷ xs))) (sym (leading_yes p x xs e)) (e, leading_all p xs))
-    (λ (e : p x ≡ false). subst (λ n. All (λ y. p y ≡ true) (take n (x ∷ xs))) (sym (leading_no p x xs e)) tt)
+    (λ (e : p x ≡ true). subst (λ n. AllByRecursion (λ y. p y ≡ true) (take n (x ∷ xs))) (sym (leading_yes p x xs e)) (e, leading_all p xs))
+    (λ (e : p x ≡ false). subst (λ n. AllByRecursion (λ y. p y ≡ true) (take n (x ∷ xs))) (sym (leading_no p x xs e)) tt)
     (cases_Bool (p x))
 
 first_fails : (p : ℕ → Bool) (x : ℕ) (xs : List ℕ) → prefix_len p (x ∷ xs) ≡ 0 → p x ≡ false

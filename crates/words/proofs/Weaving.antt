@@ -1,7 +1,7 @@
 -- The laws of the words of a listing.
 use Rattle.std.proofs.Common.{◌≡◌, ℕ, zero, suc, ◌+◌, ◌<◌, ◌≤◌, Bool, true, false, cond, eqb, List, [], ◌∷◌, ◌++◌, length, take, drop, Some, None, Option, sym, refl, ap, ◌∙◌, subst, inl, inr, ⊎_elim, append_assoc, add-zero, arith, length-append, take-append-drop, length-take-le}
 use lib.Seq.{take-append_seam, drop-append_seam}
-use Rattle.std.specs.List.{prefix_len, AllByRecursion as All}
+use Rattle.std.specs.List.{prefix_len, AllByRecursion}
 use Rattle.std.proofs.lemmas.List.Sums.{prefix_len-le-length}
 use Rattle.std.proofs.lemmas.Bool.{cases_Bool, cond_both, eqb-true, or_cases}
 use Rattle.words.specs.Bytes.{blank, inner}
@@ -106,7 +106,7 @@ lex_next at b w rest t e =
     rest_of : lex (at + 1) (length w) (w ++ rest) ≡ lex (at + suc (length w)) 0 rest
     rest_of = lex_pass (at + 1) (length w) (w ++ rest) ∙ (λ i. lex (one_more at (length w) i) 0 (drop-append_seam w rest i))
 
-leading_append : (w rest : List ℕ) → All (λ b. inner b ≡ true) w → prefix_len inner rest ≡ 0 → prefix_len inner (w ++ rest) ≡ length w
+leading_append : (w rest : List ℕ) → AllByRecursion (λ b. inner b ≡ true) w → prefix_len inner rest ≡ 0 → prefix_len inner (w ++ rest) ≡ length w
 leading_append [] rest h e = e
 leading_append (x ∷ w) rest h e = leading_yes inner x (w ++ rest) h.0 ∙ ap suc (leading_append w rest h.1 e)
 
@@ -181,7 +181,7 @@ module _ (End : ℕ → List ℕ → Type 0) where
       omega arith
 
   -- the words of a part of s that stands after `front`
-  parts : (s front bs : List ℕ) (xs : List Item) → s ≡ front ++ bs → Worded (length front) bs xs End → All (Part s) xs
+  parts : (s front bs : List ℕ) (xs : List Item) → s ≡ front ++ bs → Worded (length front) bs xs End → AllByRecursion (Part s) xs
   parts s front bs [] e w = tt
   parts s front bs (x ∷ xs) e w =
       let rest = w.1 in

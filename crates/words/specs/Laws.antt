@@ -1,6 +1,6 @@
 -- Laws of the words of a listing.
 use Rattle.std.specs.Prelude.{◌≡◌, ℕ, ◌+◌, ◌<◌, ◌≤◌, true, ◌↔◌, List, [], ◌∷◌, length, take, drop, Some, None}
-use Rattle.std.specs.List.{AllByRecursion as All}
+use Rattle.std.specs.List.{AllByRecursion}
 use Rattle.std.specs.Str.Parse.{digits_value}
 use Rattle.words.specs.Bytes.{inner}
 use Rattle.words.specs.Spellings.{kinds, gates, lookup}
@@ -27,7 +27,7 @@ abbrev pub Part : List ℕ → Item → Type 0
 Part s x = (x.place + length x.bytes ≤ length s) × (x.bytes ≡ take (length x.bytes) (drop x.place s))
 
 abbrev pub WordsAreParts : Type 0
-WordsAreParts = (s : List ℕ) (xs : List Item) → words_of s ≡ items xs → All (Part s) xs
+WordsAreParts = (s : List ℕ) (xs : List Item) → words_of s ≡ items xs → AllByRecursion (Part s) xs
 
 abbrev pub NoMoreWordsThanBytes : Type 0
 NoMoreWordsThanBytes = (s : List ℕ) (xs : List Item) → words_of s ≡ items xs → length xs ≤ length s
@@ -38,10 +38,10 @@ BadWordsAreWithin = (s : List ℕ) (p : ℕ) → words_of s ≡ bad_at p → p <
 
 -- a name begins with a letter, has letters and digits only, is short and is not reserved; the others are spelled as they should be
 abbrev pub Spells : Sort → List ℕ → Type 0
-Spells name w = (good_name w ≡ true) × All (λ b. inner b ≡ true) w × (lookup w kinds ≡ None) × (lookup w gates ≡ None)
+Spells name w = (good_name w ≡ true) × AllByRecursion (λ b. inner b ≡ true) w × (lookup w kinds ≡ None) × (lookup w gates ≡ None)
 Spells (number n) w = (good_number w ≡ true) × (n ≡ digits_value 10 w)
 Spells (gate g) w = lookup w gates ≡ Some g
 Spells (fixed k) w = lookup w kinds ≡ Some k
 
 abbrev pub WordsAreSpelled : Type 0
-WordsAreSpelled = (s : List ℕ) (xs : List Item) → words_of s ≡ items xs → All (λ x. Spells x.sort x.bytes) xs
+WordsAreSpelled = (s : List ℕ) (xs : List Item) → words_of s ≡ items xs → AllByRecursion (λ x. Spells x.sort x.bytes) xs

@@ -1,8 +1,8 @@
 -- The words of a listing.
 use Rattle.std.specs.Prelude.{◌≡◌, ℕ, zero, suc, ◌+◌, ◌<◌, Bool, true, false, cond, not, ◌&&◌, ◌⊎◌, List, [], ◌∷◌, ◌++◌, map, length, take, drop, Some, None, Ok, Err, Option, Result, ◌==◌, nat_le}
-use Rattle.std.specs.List.{prefix_len, AllByRecursion as All}
+use Rattle.std.specs.List.{prefix_len, AllByRecursion}
 use Rattle.std.specs.Str.{all_ascii_digits}
-use Rattle.std.specs.Str.Parse.{digits_value as value}
+use Rattle.std.specs.Str.Parse.{digits_value}
 use Rattle.machine.specs.declared.order.Gate.{Gate as GateName}
 use Rattle.words.specs.Bytes.{blank, inner, letter}
 use Rattle.words.specs.Spellings.{kinds, gates, lookup}
@@ -35,7 +35,7 @@ no_leading_zero (b ∷ c ∷ w) = not (b == 48)
 
 -- digits only, no leading zero, and not too large
 abbrev pub good_number : List ℕ → Bool
-good_number w = no_leading_zero w && (all_ascii_digits w && nat_le (value 10 w) largest)
+good_number w = no_leading_zero w && (all_ascii_digits w && nat_le (digits_value 10 w) largest)
 
 -- a letter first, and not too long; w is a run of letters and digits, or one other byte
 abbrev pub good_name : List ℕ → Bool
@@ -52,7 +52,7 @@ unfoldable pub sort_of : List ℕ → Option Sort
 sort_of w =
     found fixed (lookup w kinds)
     (found gate (lookup w gates)
-    (cond (good_number w) (Some (number (value 10 w)))
+    (cond (good_number w) (Some (number (digits_value 10 w)))
     (cond (good_name w) (Some name) None)))
 
 -- a word: what it is, its bytes and its place
@@ -131,12 +131,12 @@ Means w p None = sort_of w ≡ None
 Means w p (Some x) = (sort_of w ≡ Some (seen x).sort) × (seen x ≡ item (seen x).sort w p)
 
 abbrev pub Blanks : List ℕ → Type 0
-Blanks bs = All (λ b. blank b ≡ true) bs
+Blanks bs = AllByRecursion (λ b. blank b ≡ true) bs
 
 -- w is a longest run of letters and digits, or one byte that is none and no blank
 abbrev pub Whole : List ℕ → List ℕ → Type 0
 Whole w rest =
-    ((0 < length w) × All (λ b. inner b ≡ true) w × (prefix_len inner rest ≡ 0))
+    ((0 < length w) × AllByRecursion (λ b. inner b ≡ true) w × (prefix_len inner rest ≡ 0))
     ⊎ ((b : ℕ) × (w ≡ b ∷ []) × (inner b ≡ false) × (blank b ≡ false))
 
 -- the bytes s, of which the first stands at the place `at`, are a gap of blanks (perhaps none), the word w at the place p, and a rest
