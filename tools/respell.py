@@ -54,13 +54,28 @@ def declared(path):
 
 
 def imported_from_std():
+    """Names that a `use` takes from outside the repository's own crates."""
+    own_crates = "|".join(sorted(os.listdir("crates")))
+    foreign = re.compile(r"use (?!Rattle\.(?:%s)\.)[^{;\n]*\{([^}]*)\}" % own_crates)
     names = set()
     for path in files(".antt", ".rt"):
         text = open(path, encoding="utf-8").read()
-        for m in re.finditer(r"use Rattle\.std\.[^{;\n]*\{([^}]*)\}", text):
+        for m in foreign.finditer(text):
             for item in m.group(1).split(","):
                 names.add(item.split(" as ")[0].strip())
     return names
+
+
+def is_answer(path):
+    return os.path.basename(path) in ("Answers.antt", "Invariants.antt", "Choices.antt")
+
+
+def local_names(path):
+    """Parameters, variables and names that a `use` gives, in a file of definitions or lemmas."""
+    text = re.sub(r"--[^\n]*", "", open(path, encoding="utf-8").read())
+    for name in re.findall(PART, text):
+        if re.match(r"[A-Za-z][A-Za-z0-9']*[-_][A-Za-z]", name):
+            yield name
 
 
 # Names that would fall together with a struct of the source, and lemmas that would have the name of the function whose contract they prove.
@@ -80,7 +95,7 @@ def respelled(name):
     if name in SPECIAL:
         return SPECIAL[name]
     if re.match(r"^[A-Z]", name):
-        head, *rest = name.split("-")
+        head, *rest = re.split("[-_]", name)
         return head + "".join(p[:1].upper() + p[1:] for p in rest)
     return name.replace("-", "_")
 
@@ -96,6 +111,10 @@ def main():
             seen.add(name)
             if "-" in name and re.match(r"^[A-Za-z∷]", name) and name not in std:
                 table.setdefault(name, (respelled(name), path, line.strip()))
+        if not is_answer(path):
+            for name in local_names(path):
+                if name not in std and ("-" in name or re.match(r"[A-Z][a-z]*_", name)):
+                    table.setdefault(name, (respelled(name), path, name))
     old_tokens = set()
     for path in files(".antt", ".rt"):
         old_tokens.update(re.findall(PART, open(path, encoding="utf-8").read()))

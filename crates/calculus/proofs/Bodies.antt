@@ -13,12 +13,12 @@ use Rattle.calculus.specs.Rules.{Under, under_none, under_more}
 use Rattle.calculus.proofs.Counting.{found_of}
 use Rattle.calculus.proofs.Live.{rise}
 
-module _ (ops : List Op) (lim : ℕ) (o o' : Bodies) (same-below : (f : ℕ) → f < lim → o f ≡ o' f) where
+module _ (ops : List Op) (lim : ℕ) (o o' : Bodies) (same_below : (f : ℕ) → f < lim → o f ≡ o' f) where
   form_agrees : (f : Form) (Ts : Tys) (T : Ty) → Fits ops lim f Ts T → (b : ℕ) → (form_end o f b ≡ form_end o' f b) × (form_top o f b ≡ form_top o' f b)
   form_agrees tupling Ts T h b = (refl, refl)
   form_agrees meas Ts T h b = (refl, refl)
   form_agrees (gate g) Ts T h b = (refl, refl)
-  form_agrees (call f) Ts T h b = let q = same-below f h.1 in (ap (λ (B : Body). B.ends b) q, ap (λ (B : Body). B.tops b) q)
+  form_agrees (call f) Ts T h b = let q = same_below f h.1 in (ap (λ (B : Body). B.ends b) q, ap (λ (B : Body). B.tops b) q)
 
   mutual
     -- a term's live handles rest on the operations that it may call alone

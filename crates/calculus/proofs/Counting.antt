@@ -13,12 +13,12 @@ use Rattle.calculus.specs.Rules.{Under, under_none, under_more}
 use Rattle.calculus.specs.Laws.{Counted}
 use Rattle.calculus.proofs.Names.{never}
 
-module _ (ops : List Op) (lim : ℕ) (c c' : ℕ → ℕ) (same-below : (f : ℕ) → f < lim → c f ≡ c' f) where
+module _ (ops : List Op) (lim : ℕ) (c c' : ℕ → ℕ) (same_below : (f : ℕ) → f < lim → c f ≡ c' f) where
   form_agrees : (f : Form) (Ts : Tys) (T : Ty) → Fits ops lim f Ts T → body_steps c f ≡ body_steps c' f
   form_agrees tupling Ts T h = refl
   form_agrees meas Ts T h = refl
   form_agrees (gate g) Ts T h = refl
-  form_agrees (call f) Ts T h = same-below f h.1
+  form_agrees (call f) Ts T h = same_below f h.1
 
   mutual
     -- a term's steps rest on the operations that it may call alone

@@ -48,8 +48,8 @@ unspent_not A (has_using (under_more Δ' new d (under_none (has_give q s)))) = n
 
 doubled_not : Untyped doubled
 doubled_not A (has_using (under_more Δ' new d (under_none (has_build Ts (parts_more Δ₁ Δ₂ e h (parts_more Δ₃ Δ₄ e₂ h₂ ps)) fit)))) =
-    let one-spent : Δ' (var 0) ≡ 1 = d (var 0) in
-    absurd (omega (arith, one-spent, e (var 0), e₂ (var 0), spends_it 0 refl h, spends_it 0 refl h₂))
+    let one_spent : Δ' (var 0) ≡ 1 = d (var 0) in
+    absurd (omega (arith, one_spent, e (var 0), e₂ (var 0), spends_it 0 refl h, spends_it 0 refl h₂))
 
 meas_spends : {Δ : Uses} {Γ : Scope} {p q : Place} {A : Ty} (x : ℕ) → Γ (var x) ≡ some (fixed qbit) → Has [] 0 Γ Δ (build p meas (name q (var x) ∷ˢ no_terms)) A → Δ (var x) ≡ 1
 meas_spends x g (has_build Ts (parts_more Δ₁ Δ₂ e h (parts_none z)) fit) = omega (arith, e (var x), spends_it x g h, z (var x))

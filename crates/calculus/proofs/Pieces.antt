@@ -131,12 +131,12 @@ pub peak_by_pieces : PeakByPieces
 peak_by_pieces ops P lim Γ Δ t A r d = peak_same ops P lim r d
 
 -- a term's peak rests on the operations that it may call alone
-module _ (ops : List Op) (lim : ℕ) (P P' : ℕ → ℤ) (same-below : (f : ℕ) → f < lim → P f ≡ P' f) where
+module _ (ops : List Op) (lim : ℕ) (P P' : ℕ → ℤ) (same_below : (f : ℕ) → f < lim → P f ≡ P' f) where
   last_agrees : (f : Form) (As : Tys) (A : Ty) → Fits ops lim f As A → (n : ℤ) → body_peak P f n ≡ body_peak P' f n
   last_agrees tupling As A h n = refl
   last_agrees meas As A h n = refl
   last_agrees (gate g) As A h n = refl
-  last_agrees (call f) As A h n = ap (λ (z : ℤ). n +ℤ z) (same-below f h.1)
+  last_agrees (call f) As A h n = ap (λ (z : ℤ). n +ℤ z) (same_below f h.1)
 
   mutual
     peak_agrees : {Γ : Scope} {Δ : Uses} {t : Term} {A : Ty} → Has ops lim Γ Δ t A → piece_peak ops P t ≡ piece_peak ops P' t

@@ -218,10 +218,10 @@ module _ (ops : List Op) (lim : ℕ) (well : Well ops) where
           grown = k.grown;
           plain = k.plain;
         }
-    keep (step_set {ns = ns} {v = v} {μ = μ} vs tk es at-es) Δ U pl a c (has_set Δ₁ Δ₂ T Ts d (has_done q s) nv sp m u) =
+    keep (step_set {ns = ns} {v = v} {μ = μ} vs tk es at_es) Δ U pl a c (has_set Δ₁ Δ₂ T Ts d (has_done q s) nv sp m u) =
         let r = taken ns v vs T Ts tk sp q in
         let dup = spread_plain ns T Ts sp (plain_types μ (names ns) Ts pl m) in
-        let may = subst (λ (l : List Name). MaySet (around μ) l Ts) at-es m in
+        let may = subst (λ (l : List Name). MaySet (around μ) l Ts) at_es m in
         record {
           uses = Δ₂;
           has = grow ops lim lim (omega arith) (Clear []) u c.2 (around (written es vs μ)) (grown_set es vs μ may r.0);

@@ -18,7 +18,7 @@ use Rattle.calculus.specs.Syntax.{Ty, bit, qbit, Tys, no_types, ◌∷ᵗ◌, Na
 use Rattle.calculus.specs.Syntax.{types_of, Pattern, one, several, names, Form, tupling, meas, gate, call, Place, Term, give, done, name, build, bind, mut, set, using_in, if_else, Terms}
 use Rattle.calculus.specs.Syntax.{no_terms, ◌∷ˢ◌, Op}
 use Rattle.calculus.specs.Rules.{Uses, Binding, Scope, Spread, qbits, Fits, MaySet, Has, has_done, has_name, has_build, has_bind, has_mut, has_set, has_if, Parts, parts_more}
-use Rattle.calculus.specs.Laws.{Goes_on, finished, moves, Progress}
+use Rattle.calculus.specs.Laws.{GoesOn, finished, moves, Progress}
 use Rattle.calculus.specs.Steps.{puts, given, EachHeld, EachHeldAll, EachName, Each, EachPart, Clear, Table, around, Event, prepares, handle_values, AllDone, none_left, one_done}
 use Rattle.calculus.specs.Steps.{joined, Acts, acts_tuple, acts_meas, acts_gate, acts_call, Taken, Step, step_give, step_name, step_parts, step_build, step_bind_in, step_bind, step_mut_in}
 use Rattle.calculus.specs.Steps.{step_mut, step_set_in, step_set, step_using, step_if_in, step_if, StepPart, step_first, step_later, Agrees}
@@ -262,6 +262,6 @@ module _ (ops : List Op) (lim : ℕ) (μ : Table) (k : ℕ) (hs : ℕ → ℕ) (
 pub progress : Progress
 progress ops lim t μ Δ T h hs b = finish (go ops lim μ (bound t) hs b t Δ T h)
   where
-    finish : Can ops t μ (bound t) hs b → Goes_on ops t μ hs b
+    finish : Can ops t μ (bound t) hs b → GoesOn ops t μ hs b
     finish (is_done v q) = finished v q
     finish (can n s a) = moves (record { new = from (bound t) n; step = s; fresh = record { apart = from_distinct (bound t) n; unnamed = clear (bound t) n t (omega arith) } }) a

@@ -51,7 +51,7 @@ safety_kept ops well T t t' μ μ' m m' p a s =
     }
 
 module _ (ops : List Op) (start : Term) (T : Ty) (well : Well ops) (typed : Has ops (length ops) nowhere nothing start T) (m₀ : Model)
-    (no-live : (h : ℕ) → m₀.live h ≡ false) (enough : most_live ops 0 start ≤ m₀.capacity) where
+    (no_live : (h : ℕ) → m₀.live h ≡ false) (enough : most_live ops 0 start ≤ m₀.capacity) where
   whole : (k : ℕ) (t : Term) (μ : Table) (m : Model) → Safe ops T t μ m → k + steps_of ops t ≤ steps_of ops start → most_live ops (live_count m) t ≤ most_live ops 0 start →
       m.capacity ≡ m₀.capacity → Sound ops start T m₀ k t μ m
   whole k t μ m s b r cap = record {
@@ -67,22 +67,22 @@ module _ (ops : List Op) (start : Term) (T : Ty) (well : Well ops) (typed : Has 
   no_names : (x : Name) → live_names m₀ x ≡ 0
   no_names (var x) = refl
   no_names (entry e) = refl
-  no_names (handle h) = rw (no-live h)
+  no_names (handle h) = rw (no_live h)
 
   all_along : {k : ℕ} {t : Term} {μ : Table} {m : Model} → Reached ops start m₀ k t μ m → Sound ops start T m₀ k t μ m
   all_along at_start =
-      let none-live = ap (λ (b : ℕ). most_live ops b start) (tally_none m₀.live no-live 64) in
+      let none_live = ap (λ (b : ℕ). most_live ops b start) (tally_none m₀.live no_live 64) in
       whole 0 start empty m₀
       (record {
         typed = by_uses (λ n. sym (no_names n)) (widen (omega arith) (record { keeps = λ n b q h. never cc; news = λ y h. refl }) typed);
         plain = λ e. refl;
-        room = omega (arith, none-live, enough);
+        room = omega (arith, none_live, enough);
       })
-      (omega arith) (omega (arith, none-live)) refl
+      (omega arith) (omega (arith, none_live)) refl
   all_along (onward {k} {t} {t'} {μ} {μ'} {m} {m'} {p} r s) =
       let a = all_along r in
       let q = safety_kept ops well T t t' μ μ' m m' p a.safe s in
       whole (suc k) t' μ' m' q.safe (omega (arith, a.in_steps, q.fewer)) (omega (arith, a.in_room, q.no_more)) (q.capacity ∙ a.capacity)
 
 pub soundness : Soundness
-soundness ops start T well typed m₀ no-live enough k t μ m r = all_along ops start T well typed m₀ no-live enough r
+soundness ops start T well typed m₀ no_live enough k t μ m r = all_along ops start T well typed m₀ no_live enough r

@@ -33,13 +33,13 @@ Preservation = (ops : List Op) (lim : ℕ) → Well ops → (t t' : Term) (μ μ
     Plain μ → Has ops lim (around μ) Δ t T → (s : WholeStep ops t μ p ev t' μ') → Preserved ops lim Δ ev s.new t' μ μ' T
 
 -- finished, or a step where the machine gives these handles and this bit
-pub data Goes_on (ops : List Op) (t : Term) (μ : Table) (hs : ℕ → ℕ) (b : Bool) : Type 0 where
-  finished : (v : Value) → t ≡ done v → Goes_on ops t μ hs b
-  moves : {p : Place} {ev : Event} {t' : Term} {μ' : Table} → WholeStep ops t μ p ev t' μ' → Agrees ev hs b → Goes_on ops t μ hs b
+pub data GoesOn (ops : List Op) (t : Term) (μ : Table) (hs : ℕ → ℕ) (b : Bool) : Type 0 where
+  finished : (v : Value) → t ≡ done v → GoesOn ops t μ hs b
+  moves : {p : Place} {ev : Event} {t' : Term} {μ' : Table} → WholeStep ops t μ p ev t' μ' → Agrees ev hs b → GoesOn ops t μ hs b
 
 -- whatever the machine answers, what is left is finished or has a step
 abbrev pub Progress : Type 0
-Progress = (ops : List Op) (lim : ℕ) (t : Term) (μ : Table) (Δ : Uses) (T : Ty) → Has ops lim (around μ) Δ t T → (hs : ℕ → ℕ) (b : Bool) → Goes_on ops t μ hs b
+Progress = (ops : List Op) (lim : ℕ) (t : Term) (μ : Table) (Δ : Uses) (T : Ty) → Has ops lim (around μ) Δ t T → (hs : ℕ → ℕ) (b : Bool) → GoesOn ops t μ hs b
 
 -- a step takes exactly one of the steps that are left; an if's, which leaves out a branch, at least one
 abbrev pub StepsFall : Type 0

@@ -9,7 +9,7 @@ use Rattle.calculus.specs.Rules.{Uses, nothing, nowhere, Has, Well}
 use Rattle.calculus.specs.Steps.{Table, empty, around, Event, WholeStep}
 use Rattle.calculus.specs.Need.{steps, body_costs}
 use Rattle.calculus.specs.Room.{top, bodies}
-use Rattle.calculus.specs.Laws.{Plain, Goes_on}
+use Rattle.calculus.specs.Laws.{Plain, GoesOn}
 
 -- the live handles, as linear names
 abbrev pub live_names : Model → Uses
@@ -64,7 +64,7 @@ pub record Safe (ops : List Op) (T : Ty) (t : Term) (μ : Table) (m : Model) : T
 -- so it goes on, and the machine accepts every order of a step
 pub record NeverStuck (ops : List Op) (t : Term) (μ : Table) (m : Model) : Type 0 where
   -- whatever the machine answers, what is left is finished or has a step
-  pub goes_on : (hs : ℕ → ℕ) (b : Bool) → Goes_on ops t μ hs b
+  pub goes_on : (hs : ℕ → ℕ) (b : Bool) → GoesOn ops t μ hs b
   pub accepted : (p : Place) (ev : Event) (t' : Term) (μ' : Table) → WholeStep ops t μ p ev t' μ' → AcceptsAll m ev
 
 abbrev pub Safety : Type 0

@@ -89,9 +89,9 @@ went_goes : (opening n k count : ℕ) (r : Result Advanced Fault) (v v' : View) 
     length xs ≤ count → (length xs < count → Ended t.run) → r ≡ Ok (record { steps = length xs; ended = finished t.run.left }) → Law opening n k v →
     (g : RunView) → v.run ≡ Some g → Goes count v g xs v' r
 went_goes opening n k count r v v' xs s t a more c b most short q l g there =
-    let at-s : Law opening n k (during s) = law_at opening n n k k v (during s) (sym a) refl refl l in
-    let all = chain_law opening n k s t xs c at-s in
-    let run-s : v.run ≡ Some s.run = ap (λ (x : View). x.run) a in
+    let at_s : Law opening n k (during s) = law_at opening n n k k v (during s) (sym a) refl refl l in
+    let all = chain_law opening n k s t xs c at_s in
+    let run_s : v.run ≡ Some s.run = ap (λ (x : View). x.run) a in
     let same : g ≡ s.run = cc in
     let from : state v.model g ≡ s = λ i. state (a i).model (same i) in
     let to : state v'.model t.run ≡ t = λ i. state (b i).model t.run in
@@ -102,7 +102,7 @@ went_goes opening n k count r v v' xs s t a more c b most short q l g there =
       some = some_step count s t xs c more short;
       most = most;
       short = short;
-      taken = omega (arith, all.1.settled.1, at-s.settled.1, ap (λ (x : RunView). x.taken) same);
+      taken = omega (arith, all.1.settled.1, at_s.settled.1, ap (λ (x : RunView). x.taken) same);
       listing = chain_listing s t xs c ∙ ap (λ (x : RunView). x.listing) (sym same);
       answer = q;
     }
@@ -121,7 +121,7 @@ advance_answers opening n k count r v v' xs (ended g a b q e f) l = record {
   unrefused = λ x y. let z : ◌≡◌ {A = ℕ} 0 1 = cc in omega arith;
 }
 advance_answers opening n k count r v v' xs (went s t a more c b most short q) l =
-    let run-s : v.run ≡ Some s.run = ap (λ (x : View). x.run) a in
+    let run_s : v.run ≡ Some s.run = ap (λ (x : View). x.run) a in
     record {
       unloaded = λ none. let z : ◌≡◌ {A = ℕ} 0 1 = cc in absurd (omega arith);
       ended = λ g there over. let same : g ≡ s.run = cc in absurd (more (subst Ended same over));

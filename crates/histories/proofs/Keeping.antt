@@ -60,13 +60,13 @@ next_keeps s x w h =
     let r : Reached l.ops l.start h.first (suc s.run.taken) g.left g.table x.state.model = onward h.reached w.step in
     let bound = (sound_at l h.first h.idle h.admitted (suc s.run.taken) g.left g.table x.state.model r).in_steps in
     let exact : g.taken ≡ suc s.run.taken = omega (arith, bound, w.taken, h.admitted.steps, h.admitted.few) in
-    let at-taken : Reached l.ops l.start h.first g.taken g.left g.table x.state.model =
+    let at_taken : Reached l.ops l.start h.first g.taken g.left g.table x.state.model =
     subst (λ (k : ℕ). Reached l.ops l.start h.first k g.left g.table x.state.model) (sym exact) r in (
       record {
         first = h.first;
         idle = h.idle;
         admitted = subst (λ (y : Listing). Admitted h.first.capacity y) (sym w.listing) h.admitted;
-        reached = subst (λ (y : Listing). Reached y.ops y.start h.first g.taken g.left g.table x.state.model) (sym w.listing) at-taken;
+        reached = subst (λ (y : Listing). Reached y.ops y.start h.first g.taken g.left g.table x.state.model) (sym w.listing) at_taken;
       },
       omega (arith, exact),
     )

@@ -69,9 +69,9 @@ module _ (Verdict : List ℕ → ℕ → Result Listing Fault → Type 0) {R : T
   accepted_seen bytes m r run l res none short found a start q = record {
     keeps = λ opening n k v s h.
         let v' : View = record { model = v.model; run = Some (begin l) } in
-        let found-there = subst (λ (x : Model). Verdict bytes x.capacity (Ok l)) (sym s.model) found in
-        let admitted-there = subst (λ (x : Model). Admitted x.capacity l) (sym s.model) a in
-        (v', record { model = s.model; run = start }, promise Verdict (load bytes res) v [] v' (accepted l (none_shown m r v none s) short found-there admitted-there q refl, refl));
+        let found_there = subst (λ (x : Model). Verdict bytes x.capacity (Ok l)) (sym s.model) found in
+        let admitted_there = subst (λ (x : Model). Admitted x.capacity l) (sym s.model) a in
+        (v', record { model = s.model; run = start }, promise Verdict (load bytes res) v [] v' (accepted l (none_shown m r v none s) short found_there admitted_there q refl, refl));
   }
 
   pub unloaded_seen : (count : ℕ) (m : Model) (r : Option R) → r ≡ None → Promised Looks Verdict (advance count (Err (fault.Bench bench.Unloaded))) m r m r

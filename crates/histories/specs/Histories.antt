@@ -8,7 +8,7 @@ use Rattle.faults.specs.declared.fault.Fault.TheVariants as fault
 use Rattle.calculus.specs.Syntax.{Name, handle, Place, Term}
 use Rattle.calculus.specs.Rules.{once, Has}
 use Rattle.calculus.specs.Steps.{Table, around, Event, WholeStep}
-use Rattle.calculus.specs.Laws.{Plain, Goes_on}
+use Rattle.calculus.specs.Laws.{Plain, GoesOn}
 use Rattle.calculus.specs.Peak.{outer}
 use Rattle.calculus.specs.Runs.{live_names, live_count, AcceptsAll}
 use Rattle.histories.specs.Views.{Listing, Admitted, RunView, View, state, during, Ended, finished, Moment, Chain, sent}
@@ -38,7 +38,7 @@ pub record RunSound (k : ℕ) (m : Model) (g : RunView) : Type 0 where
   -- no entry of the table holds a handle
   pub plain : Plain g.table
   -- whatever the machine answers, all is finished or there is a next step, and the machine accepts each order of it
-  pub goes_on : (hs : ℕ → ℕ) (b : Bool) → Goes_on g.listing.ops g.left g.table hs b
+  pub goes_on : (hs : ℕ → ℕ) (b : Bool) → GoesOn g.listing.ops g.left g.table hs b
   pub accepts : (p : Place) (ev : Event) (t' : Term) (μ' : Table) → WholeStep g.listing.ops g.left g.table p ev t' μ' → AcceptsAll m ev
   -- the steps taken are those that its advances have answered
   pub taken : g.taken ≡ k

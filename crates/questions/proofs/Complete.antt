@@ -1,7 +1,7 @@
 -- What has a typing, the walk accepts.
 use Rattle.std.proofs.Common.{◌≡◌, ℕ, suc, ◌+◌, ◌≤◌, Bool, true, false, cond, not, List, [], ◌∷◌, ◌++◌, map, length, sym, refl, ap, ◌∙◌, subst, arith, lt-ltb, leb-false}
 use mathlib.Core.Option.{none, some}
-use Rattle.syntax.specs.Trees.{Identifier, Pattern as Tree-pattern, Tree, Trees}
+use Rattle.syntax.specs.Trees.{Identifier, Pattern as TreePattern, Tree, Trees}
 use Rattle.calculus.specs.Syntax.{Ty, bit, qbit, tuple, Tys, leaves_all, linear, Name, var, entry, handle, Pattern, names, Op, Term, Terms}
 use Rattle.calculus.specs.Rules.{Uses, Same, Divides, spent, Binding, settable, type, Scope, extend, NoVar, Spread, qbits, nth, MaySet, may_none, may_more, Has, has_give}
 use Rattle.calculus.specs.Rules.{has_name, has_build, has_bind, has_mut, has_set, has_using, has_if, Parts, parts_none, parts_more, Under, under_none, under_more}
@@ -33,7 +33,7 @@ new_here ops z m {is = is} r ee l e =
 
 -- one type for each name
 pub under_each : {names : List (List ℕ)} {above : ℕ} {env : List Bound} {is : List Identifier} {xs : List ℕ} {t : Tree} {u : Term} → ResolvesUnder names above env is xs t u →
-    {ops : List Op} {as-b : Ty → Binding} {Γ : Scope} {Δ : Uses} {Ts : Tys} {U : Ty} → Under ops above as-b Γ Δ xs Ts u U → one_each is Ts ≡ true
+    {ops : List Op} {as_b : Ty → Binding} {Γ : Scope} {Δ : Uses} {Ts : Tys} {U : Ty} → Under ops above as_b Γ Δ xs Ts u U → one_each is Ts ≡ true
 under_each (res_body r) (under_none h) = refl
 under_each (res_bound tk nx r) (under_more Δ' nw d u) = under_each r u
 
@@ -41,7 +41,7 @@ pub set_each : {env : List Bound} {earlier : List (List ℕ)} {is : List Identif
 set_each sets_none may_none = refl
 set_each (sets_more b un f r) (may_more g ms) = set_each r ms
 
-pub spread_go : {N : Type 0} {is : Tree-pattern} {xs : Pattern N} → Alike is xs → (T : Ty) (Ts : Tys) → Spread xs T Ts → one_each (identifiers is) Ts ≡ true → spread is T ≡ some Ts
+pub spread_go : {N : Type 0} {is : TreePattern} {xs : Pattern N} → Alike is xs → (T : Ty) (Ts : Tys) → Spread xs T Ts → one_each (identifiers is) Ts ≡ true → spread is T ≡ some Ts
 spread_go alike_one T Ts e q = ap some (sym e)
 spread_go (alike_several {is = is}) T Ts e q = rw (e, q)
 
@@ -89,12 +89,12 @@ module _ (sigs : List Signature) (ops : List Op) (above : ℕ) where
           let one' : spent T (var b.number) (var b.number) ≡ 1 = rw (l, is_refl (var b.number)) in
           let hand : 1 ≤ avail z m (var b.number) = omega (arith, le (var b.number), sm (var b.number)) in
           let ins = hand_inside i.bytes z y m n b a f hand in
-          let out-not : among i.bytes (names_of (marked y n)) ≡ false = among_find bytes_of i.bytes (marked y n) ∙ ap is_some (unfound i.bytes y n ins.0) in
-          let in-s = found_inside bytes_of i.bytes (marked z m) (marked y n) w.0 at_all out-not in
-          let uns = hand_unspent i.bytes z y m b w.0 a ins.1 in-s hand in
+          let out_not : among i.bytes (names_of (marked y n)) ≡ false = among_find bytes_of i.bytes (marked y n) ∙ ap is_some (unfound i.bytes y n ins.0) in
+          let in_s = found_inside bytes_of i.bytes (marked z m) (marked y n) w.0 at_all out_not in
+          let uns = hand_unspent i.bytes z y m b w.0 a ins.1 in_s hand in
           let lin : linear w.0.type ≡ true = ap linear TIs ∙ l in
-          let mk = marks i.bytes z m b w.0 (apart_inner z y a) ins.1 in-s lin uns in
-          (mk.0, given_go is_known i.place _ at_all (spends w.0 mk.0 lin (not_false _ uns) (not_false _ out-not) TIs mk.1), λ n. mk.2 n ∙ ap (λ (k : ℕ). k + avail z mk.0 n) (sym (sm n ∙ rw l)))
+          let mk = marks i.bytes z m b w.0 (apart_inner z y a) ins.1 in_s lin uns in
+          (mk.0, given_go is_known i.place _ at_all (spends w.0 mk.0 lin (not_false _ uns) (not_false _ out_not) TIs mk.1), λ n. mk.2 n ∙ ap (λ (k : ℕ). k + avail z mk.0 n) (sym (sm n ∙ rw l)))
         where
           spends : (k : Known) (m' : List Bool) → linear k.type ≡ true → not k.spent ≡ true → not (among i.bytes (names_of (marked y n))) ≡ true → k.type ≡ T → mark i.bytes (marked z m) ≡ marked z m' →
               cond (linear k.type) (asks is_unspent i.place (not k.spent) (asks is_inside i.place (not (among i.bytes (names_of (marked y n)))) (typed k.type (mark i.bytes (marked z m)))))
@@ -102,8 +102,8 @@ module _ (sigs : List Signature) (ops : List Op) (above : ℕ) where
           spends k m' l u o q r = rw (l, u, o, q, r)
       go false l =
           let lin : linear w.0.type ≡ false = ap linear TIs ∙ l in
-          let none-used : (n : Name) → Δ n ≡ 0 = λ n. sm n ∙ rw l in
-          (m, given_go is_known i.place _ at_all (rw (lin, TIs)), λ n. omega (arith, none-used n))
+          let none_used : (n : Name) → Δ n ≡ 0 = λ n. sm n ∙ rw l in
+          (m, given_go is_known i.place _ at_all (rw (lin, TIs)), λ n. omega (arith, none_used n))
 
   -- the marks that are left: what was used is spent
   abbrev pub Left : List Tie → List Bool → Uses → List Known → Type 0

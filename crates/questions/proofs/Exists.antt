@@ -3,8 +3,8 @@ use Rattle.std.proofs.Common.{◌≡◌, ℕ, suc, ◌+◌, ◌<◌, Bool, true,
 use mathlib.Core.Option.{Option, none, some}
 use Rattle.std.specs.Str.{bytes_eq}
 use Rattle.machine.specs.Orders.{width}
-use Rattle.syntax.specs.Trees.{Identifier, by_let, by_mut, by_set, Pattern as Tree-pattern, one as one_name, several as several-names}
-use Rattle.syntax.specs.Trees.{Tree, constant, named, call as call-tree, meas as meas-tree, apply, tuple as tuple-tree, bind as bind-tree, prepare, choose, Trees, no_trees, ◌∷ᵗ◌ as ◌∷ᵉ◌}
+use Rattle.syntax.specs.Trees.{Identifier, by_let, by_mut, by_set, Pattern as TreePattern, one as one_name, several as several_names}
+use Rattle.syntax.specs.Trees.{Tree, constant, named, call as call_tree, meas as meas_tree, apply, tuple as tuple_tree, bind as bind_tree, prepare, choose, Trees, no_trees, ◌∷ᵗ◌ as ◌∷ᵉ◌}
 use Rattle.syntax.specs.Trees.{Parameter, Operation, Program}
 use Rattle.calculus.specs.Syntax.{Ty, bit, qbit, Tys, no_types, ◌∷ᵗ◌, linear, Name, var, Pattern, one, several, names, tupling, meas, gate, call, Op, Term, name, give, build, bind, mut, set, using_in}
 use Rattle.calculus.specs.Syntax.{if_else, Terms, no_terms, ◌∷ˢ◌}
@@ -65,15 +65,15 @@ numbered_name b l k env ee h =
     is_there (find bound_name b env) (sym (among_find bound_name b env) ∙ ap (among b) ee ∙ among_find bytes_of b l ∙ p)
 
 -- the pattern of a term from its list of names
-pattern_of : {N : Type 0} (is : Tree-pattern) (xs : List N) → length (identifiers is) ≡ length xs → (ps : Pattern N) × Alike is ps × (xs ≡ names ps)
+pattern_of : {N : Type 0} (is : TreePattern) (xs : List N) → length (identifiers is) ≡ length xs → (ps : Pattern N) × Alike is ps × (xs ≡ names ps)
 pattern_of (one_name i) [] h = never (omega arith)
 pattern_of (one_name i) (x ∷ []) h = (one x, alike_one, refl)
 pattern_of (one_name i) (x ∷ (y ∷ xs)) h = never (omega arith)
-pattern_of (several-names is) xs h = (several xs, alike_several, refl)
+pattern_of (several_names is) xs h = (several xs, alike_several, refl)
 
-pub spread_each : (is : Tree-pattern) (T : Ty) (Ts : Tys) → spread is T ≡ some Ts → one_each (identifiers is) Ts ≡ true
+pub spread_each : (is : TreePattern) (T : Ty) (Ts : Tys) → spread is T ≡ some Ts → one_each (identifiers is) Ts ≡ true
 spread_each (one_name i) T Ts h = let e : Ts ≡ T ∷ᵗ no_types = cc in rw e
-spread_each (several-names is) T Ts h = (parts_fit is T Ts h).1
+spread_each (several_names is) T Ts h = (parts_fit is T Ts h).1
 
 sets_length : {env : List Bound} {earlier : List (List ℕ)} {is : List Identifier} {ns : List Name} → Sets env earlier is ns → length is ≡ length ns
 sets_length sets_none = refl
@@ -140,7 +140,7 @@ module _ (sigs : List Signature) (above : ℕ) where
     stands (named i) out s T s' h =
         let g = given_typed is_known i.place (find bytes_of i.bytes (s ++ out)) _ T s' h in
         ((λ env ee. let e = numbered_name i.bytes (s ++ out) g.0 env ee g.1 in (name i.place (var e.0.number), res_name e.0 e.1)), used out s i g.0 T s' g.2)
-    stands (call-tree i ts) out s T s' h =
+    stands (call_tree i ts) out s T s' h =
         let h₁ = given_typed is_known i.place (position i.bytes (op_names sigs)) _ T s' h in
         let h₂ = given_typed is_known i.place (nth sigs h₁.0) _ T s' h₁.2 in
         let h₃ = asks_typed is_above i.place (ltb h₁.0 above) _ T s' h₂.2 in
@@ -151,7 +151,7 @@ module _ (sigs : List Signature) (above : ℕ) where
           (λ env ee. let r = w.0 env ee in (build i.place (call h₁.0) r.0, res_call h₁.0 h₁.1 (ltb-true h₁.0 above h₃.0) r.1)),
           ap names_of (sym j.1) ∙ w.1,
         )
-    stands (meas-tree p t) out s T s' h =
+    stands (meas_tree p t) out s T s' h =
         let h₁ = next_typed (ask sigs above out s t) _ T s' h in
         let h₂ = asks_typed types_fit p (same h₁.0 qbit) _ T s' h₁.3 in
         let j = typed_inj h₂.1 in
@@ -163,13 +163,13 @@ module _ (sigs : List Signature) (above : ℕ) where
         let j = typed_inj h₂.1 in
         let w = stands_all ts out s h₁.0 h₁.1 h₁.2 in
         ((λ env ee. let r = w.0 env ee in (build p (gate g) r.0, res_gate r.1)), ap names_of (sym j.1) ∙ w.1)
-    stands (tuple-tree p ts) out s T s' h =
+    stands (tuple_tree p ts) out s T s' h =
         let h₁ = next_typed (ask_all sigs above out s ts) _ T s' h in
         let h₂ = asks_typed few_leaves p (few h₁.0) _ T s' h₁.3 in
         let j = typed_inj h₂.1 in
         let w = stands_all ts out s h₁.0 h₁.1 h₁.2 in
         ((λ env ee. let r = w.0 env ee in (build p tupling r.0, res_tuple r.1)), ap names_of (sym j.1) ∙ w.1)
-    stands (bind-tree p by_let is e₀ t) out s T s' h =
+    stands (bind_tree p by_let is e₀ t) out s T s' h =
         let h₁ = unless_typed is_new (first_taken (op_names sigs) (names_of (s ++ out)) (identifiers is)) _ T s' h in
         let h₂ = next_typed (ask sigs above out s e₀) _ T s' h₁.1 in
         let h₃ = given_typed types_fit p (spread is h₂.0) _ T s' h₂.3 in
@@ -177,17 +177,17 @@ module _ (sigs : List Signature) (above : ℕ) where
         let h₅ = unless_typed all_spent (first_open (length (identifiers is)) h₄.1) _ T s' h₄.3 in
         let j = typed_inj h₅.1 in
         let w = stands e₀ out s h₂.0 h₂.1 h₂.2 in
-        let same-all-names = names_with out s h₂.1 w.1 in
-        let new = ap (λ (l : List (List ℕ)). first_taken (op_names sigs) l (identifiers is)) same-all-names ∙ h₁.0 in
+        let same_all_names = names_with out s h₂.1 w.1 in
+        let new = ap (λ (l : List (List ℕ)). first_taken (op_names sigs) l (identifiers is)) same_all_names ∙ h₁.0 in
         let v = stands_under t out (λ s₀ T₀ s₁ k. stands t out s₀ T₀ s₁ k) false (identifiers is) h₃.0 h₂.1 (spread_each is h₂.0 h₃.0 h₃.1) new h₄.0 h₄.1 h₄.2 in (
           (λ env ee.
               let r = w.0 env ee in
-              let q = v.0 env (ee ∙ sym same-all-names) in
+              let q = v.0 env (ee ∙ sym same_all_names) in
               let x = pattern_of is q.0 (under_length q.2) in
               (bind p x.0 r.0 q.1, res_let x.1 r.1 (subst (λ (l : List ℕ). ResolvesUnder (op_names sigs) above env (identifiers is) l t q.1) x.2 q.2))),
           ap names_of (sym j.1) ∙ v.1 ∙ w.1,
         )
-    stands (bind-tree p by_mut is e₀ t) out s T s' h =
+    stands (bind_tree p by_mut is e₀ t) out s T s' h =
         let h₁ = unless_typed is_new (first_taken (op_names sigs) (names_of (s ++ out)) (identifiers is)) _ T s' h in
         let h₂ = next_typed (ask sigs above (s ++ out) [] e₀) _ T s' h₁.1 in
         let h₃ = asks_typed types_fit p (not (linear h₂.0)) _ T s' h₂.3 in
@@ -204,7 +204,7 @@ module _ (sigs : List Signature) (above : ℕ) where
               (mut p x.0 r.0 q.1, res_mut x.1 r.1 (subst (λ (l : List ℕ). ResolvesUnder (op_names sigs) above env (identifiers is) l t q.1) x.2 q.2))),
           ap names_of (sym j.1) ∙ v.1,
         )
-    stands (bind-tree p by_set is e₀ t) out s T s' h =
+    stands (bind_tree p by_set is e₀ t) out s T s' h =
         let h₁ = next_typed (targets (s ++ out) [] (identifiers is)) _ T s' h in
         let h₂ = next_typed (ask sigs above (s ++ out) [] e₀) _ T s' h₁.3 in
         let h₃ = given_typed types_fit p (spread is h₂.0) _ T s' h₂.3 in
@@ -240,13 +240,13 @@ module _ (sigs : List Signature) (above : ℕ) where
         let h₆ = asks_typed branches_agree p (agree h₃.1 h₄.1) _ T s' h₅.1 in
         let j = typed_inj h₆.1 in
         let w = stands c out s h₁.0 h₁.1 h₁.2 in
-        let same-all-names = names_with out s h₁.1 w.1 in
+        let same_all_names = names_with out s h₁.1 w.1 in
         let v = stands t out h₁.1 h₃.0 h₃.1 h₃.2 in
         let v' = stands u out h₁.1 h₄.0 h₄.1 h₄.2 in (
           (λ env ee.
               let r = w.0 env ee in
-              let q = v.0 env (ee ∙ sym same-all-names) in
-              let q' = v'.0 env (ee ∙ sym same-all-names) in
+              let q = v.0 env (ee ∙ sym same_all_names) in
+              let q' = v'.0 env (ee ∙ sym same_all_names) in
               (if_else p r.0 q.0 q'.0, res_if r.1 q.1 q'.1)),
           ap names_of (sym j.1) ∙ v.1 ∙ w.1,
         )

@@ -3,7 +3,7 @@ use Rattle.std.proofs.Common.{◌≡◌, ℕ, Bool, true, false, cond, not, ltb,
 use Rattle.std.specs.Str.{bytes_eq}
 use Rattle.machine.specs.Orders.{width}
 use Rattle.syntax.specs.Trees.{Identifier, by_let, by_mut, by_set}
-use Rattle.syntax.specs.Trees.{Tree, constant, named, call as call-tree, meas as meas-tree, apply, tuple as tuple-tree, bind as bind-tree, prepare, choose, Trees, no_trees, ◌∷ᵗ◌ as ◌∷ᵉ◌}
+use Rattle.syntax.specs.Trees.{Tree, constant, named, call as call_tree, meas as meas_tree, apply, tuple as tuple_tree, bind as bind_tree, prepare, choose, Trees, no_trees, ◌∷ᵗ◌ as ◌∷ᵉ◌}
 use Rattle.calculus.specs.Syntax.{Ty, bit, qbit, Tys, no_types, ◌∷ᵗ◌, linear}
 use Rattle.calculus.specs.Rules.{qbits, nth}
 use Rattle.calculus.proofs.Names.{never}
@@ -58,14 +58,14 @@ module _ (sigs : List Signature) (above : ℕ) where
     pub keeps : (t : Tree) (out s : List Known) (T : Ty) (s' : List Known) → ask sigs above out s t ≡ typed T s' → Kept s s'
     keeps (constant p c) out s T s' h = ap (map spend) (sym (typed_inj h).1)
     keeps (named i) out s T s' h = let g = given_typed is_known i.place (find bytes_of i.bytes (s ++ out)) _ T s' h in used_kept out s i g.0 T s' g.2
-    keeps (call-tree i ts) out s T s' h =
+    keeps (call_tree i ts) out s T s' h =
         let h₁ = given_typed is_known i.place (position i.bytes (op_names sigs)) _ T s' h in
         let h₂ = given_typed is_known i.place (nth sigs h₁.0) _ T s' h₁.2 in
         let h₃ = asks_typed is_above i.place (ltb h₁.0 above) _ T s' h₂.2 in
         let h₄ = next_typed (ask_all sigs above out s ts) _ T s' h₃.1 in
         let h₅ = asks_typed types_fit i.place (same_all h₄.0 h₂.0.types) _ T s' h₄.3 in
         ap (map spend) (sym (typed_inj h₅.1).1) ∙ keeps_all ts out s h₄.0 h₄.1 h₄.2
-    keeps (meas-tree p t) out s T s' h =
+    keeps (meas_tree p t) out s T s' h =
         let h₁ = next_typed (ask sigs above out s t) _ T s' h in
         let h₂ = asks_typed types_fit p (same h₁.0 qbit) _ T s' h₁.3 in
         ap (map spend) (sym (typed_inj h₂.1).1) ∙ keeps t out s h₁.0 h₁.1 h₁.2
@@ -73,11 +73,11 @@ module _ (sigs : List Signature) (above : ℕ) where
         let h₁ = next_typed (ask_all sigs above out s ts) _ T s' h in
         let h₂ = asks_typed types_fit p (same_all h₁.0 (qbits (width g))) _ T s' h₁.3 in
         ap (map spend) (sym (typed_inj h₂.1).1) ∙ keeps_all ts out s h₁.0 h₁.1 h₁.2
-    keeps (tuple-tree p ts) out s T s' h =
+    keeps (tuple_tree p ts) out s T s' h =
         let h₁ = next_typed (ask_all sigs above out s ts) _ T s' h in
         let h₂ = asks_typed few_leaves p (few h₁.0) _ T s' h₁.3 in
         ap (map spend) (sym (typed_inj h₂.1).1) ∙ keeps_all ts out s h₁.0 h₁.1 h₁.2
-    keeps (bind-tree p by_let is e₀ t) out s T s' h =
+    keeps (bind_tree p by_let is e₀ t) out s T s' h =
         let h₁ = unless_typed is_new (first_taken (op_names sigs) (names_of (s ++ out)) (identifiers is)) _ T s' h in
         let h₂ = next_typed (ask sigs above out s e₀) _ T s' h₁.1 in
         let h₃ = given_typed types_fit p (spread is h₂.0) _ T s' h₂.3 in
@@ -85,7 +85,7 @@ module _ (sigs : List Signature) (above : ℕ) where
         let h₅ = unless_typed all_spent (first_open (length (identifiers is)) h₄.1) _ T s' h₄.3 in
         let w = keeps t out (bring false (identifiers is) h₃.0 h₂.1) h₄.0 h₄.1 h₄.2 in
         ap (map spend) (sym (typed_inj h₅.1).1) ∙ without_kept false (identifiers is) h₃.0 h₂.1 h₄.1 (spread_each is h₂.0 h₃.0 h₃.1) w ∙ keeps e₀ out s h₂.0 h₂.1 h₂.2
-    keeps (bind-tree p by_mut is e₀ t) out s T s' h =
+    keeps (bind_tree p by_mut is e₀ t) out s T s' h =
         let h₁ = unless_typed is_new (first_taken (op_names sigs) (names_of (s ++ out)) (identifiers is)) _ T s' h in
         let h₂ = next_typed (ask sigs above (s ++ out) [] e₀) _ T s' h₁.1 in
         let h₃ = asks_typed types_fit p (not (linear h₂.0)) _ T s' h₂.3 in
@@ -94,7 +94,7 @@ module _ (sigs : List Signature) (above : ℕ) where
         let h₆ = unless_typed all_spent (first_open (length (identifiers is)) h₅.1) _ T s' h₅.3 in
         let w = keeps t out (bring true (identifiers is) h₄.0 s) h₅.0 h₅.1 h₅.2 in
         ap (map spend) (sym (typed_inj h₆.1).1) ∙ without_kept true (identifiers is) h₄.0 s h₅.1 (spread_each is h₂.0 h₄.0 h₄.1) w
-    keeps (bind-tree p by_set is e₀ t) out s T s' h =
+    keeps (bind_tree p by_set is e₀ t) out s T s' h =
         let h₁ = next_typed (targets (s ++ out) [] (identifiers is)) _ T s' h in
         let h₂ = next_typed (ask sigs above (s ++ out) [] e₀) _ T s' h₁.3 in
         let h₃ = given_typed types_fit p (spread is h₂.0) _ T s' h₂.3 in

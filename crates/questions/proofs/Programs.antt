@@ -2,7 +2,7 @@
 use Rattle.std.proofs.Common.{◌≡◌, ℕ, zero, suc, ◌+◌, Bool, true, false, cond, not, List, [], ◌∷◌, length, take, sym, refl, ap, ◌∙◌, subst, arith, leb-true}
 use mathlib.Core.Path.{fun_ext}
 use mathlib.Core.Option.{none, some}
-use Rattle.syntax.specs.Trees.{Written, basic, tuple_type, Writtens, no_types as no-writtens, ◌∷ʷ◌, Parameter, Operation, Program}
+use Rattle.syntax.specs.Trees.{Written, basic, tuple_type, Writtens, no_types as no_writtens, ◌∷ʷ◌, Parameter, Operation, Program}
 use Rattle.calculus.specs.Syntax.{Ty, Tys, Name, Op, Term}
 use Rattle.calculus.specs.Rules.{Uses, nothing, fixed, nowhere, nth, Has, Under}
 use Rattle.calculus.proofs.Names.{never}
@@ -115,7 +115,7 @@ mutual
       is_few false q = never cc
 
   wide_few_all : (ws : Writtens) → too_wide_all ws ≡ none → WrittenFewAll ws
-  wide_few_all no-writtens h = tt
+  wide_few_all no_writtens h = tt
   wide_few_all (w ∷ʷ ws) h = let k = no_first (too_wide w) (too_wide_all ws) h in (wide_few w k.0, wide_few_all ws k.1)
 
 parameters_few : (names : List (List ℕ)) (s : List Known) (ps : List Parameter) (Ts : Tys) (s' : List Known) → parameters names s ps ≡ typed Ts s' → ParametersFew ps

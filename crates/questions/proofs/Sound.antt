@@ -3,7 +3,7 @@ use Rattle.std.proofs.Common.{◌≡◌, ℕ, suc, ◌+◌, ◌≤◌, Bool, tru
 use mathlib.Core.Path.{fun_ext}
 use mathlib.Core.Option.{none, some}
 use Rattle.machine.specs.Orders.{width}
-use Rattle.syntax.specs.Trees.{Identifier, Constant, unit as unit-constant, zero_bit, one_bit, number as number-constant, Pattern as Tree-pattern, Tree, Trees}
+use Rattle.syntax.specs.Trees.{Identifier, Constant, unit as unit_constant, zero_bit, one_bit, number as number_constant, Pattern as TreePattern, Tree, Trees}
 use Rattle.calculus.specs.Syntax.{Ty, unit, bit, int, qbit, tuple, Tys, no_types, ◌∷ᵗ◌, leaves, linear, Name, var, type_of, Pattern, names, Op, Term, Terms}
 use Rattle.calculus.specs.Rules.{Uses, nothing, once, Same, Divides, held, settable, type, Scope, Spread, qbits, nth, MaySet, may_none, may_more, Has, has_give}
 use Rattle.calculus.specs.Rules.{has_name, has_build, has_bind, has_mut, has_set, has_using, has_if, Parts, parts_none, parts_more, Under, under_none, under_more}
@@ -21,16 +21,16 @@ use Rattle.questions.proofs.Ties.{Tie, as_bound, known, bound, head, tail, marke
 use Rattle.questions.proofs.Ties.{agree_avail, found_inside}
 
 pub constant_typed : (c : Constant) → constant_type c ≡ type_of (value c)
-constant_typed unit-constant = refl
+constant_typed unit_constant = refl
 constant_typed zero_bit = refl
 constant_typed one_bit = refl
-constant_typed (number-constant k) = refl
+constant_typed (number_constant k) = refl
 
 pub constant_held : (c : Constant) (n : Name) → 0 ≡ held (value c) n
-constant_held unit-constant n = refl
+constant_held unit_constant n = refl
 constant_held zero_bit n = refl
 constant_held one_bit n = refl
-constant_held (number-constant k) n = refl
+constant_held (number_constant k) n = refl
 
 pub type_bound : (b : Bool) (T : Ty) → type (as_bound b T) ≡ T
 type_bound true T = refl
@@ -47,7 +47,7 @@ parts_fit is (tuple Us) Ts h = go (one_each is Us) refl h
     go true q k = let e : Us ≡ Ts = cc in (ap tuple e, rw (← e) q)
     go false q k = never cc
 
-pub spread_fits : {N : Type 0} {is : Tree-pattern} {xs : Pattern N} → Alike is xs → (T : Ty) (Ts : Tys) → spread is T ≡ some Ts → Spread xs T Ts × (one_each (identifiers is) Ts ≡ true)
+pub spread_fits : {N : Type 0} {is : TreePattern} {xs : Pattern N} → Alike is xs → (T : Ty) (Ts : Tys) → spread is T ≡ some Ts → Spread xs T Ts × (one_each (identifiers is) Ts ≡ true)
 spread_fits alike_one T Ts h = let e : Ts ≡ T ∷ᵗ no_types = cc in (e, rw e)
 spread_fits (alike_several {is = is}) T Ts h = parts_fit is T Ts h
 
@@ -70,7 +70,7 @@ set_names z m (sets_more {earlier = earlier} {i = i} {is = is} {ns = ns} b un f 
     let h₄ = next_typed (targets l (i.bytes ∷ earlier) is) _ Us l' h₃.1 in
     let k = typed_inj h₄.3 in
     let w = found i.bytes z m b a (ap (find bound_name i.bytes) (sym ee) ∙ f) in
-    let at-l : find bytes_of i.bytes l ≡ some w.0 = ap (find bytes_of i.bytes) e ∙ w.1 in
+    let at_l : find bytes_of i.bytes l ≡ some w.0 = ap (find bytes_of i.bytes) e ∙ w.1 in
     let same : w.0 ≡ h₂.0 = cc h₂.1 in
     let may : w.0.settable ≡ true = ap (λ (c : Known). c.settable) same ∙ h₃.0 in
     let ty : w.0.type ≡ h₂.0.type = ap (λ (c : Known). c.type) same in
@@ -138,10 +138,10 @@ module _ (sigs : List Signature) (ops : List Op) (above : ℕ) where
           let h₁ = asks_typed is_unspent i.place (not k.spent) _ T s' h in
           let h₂ = asks_typed is_inside i.place (not (among i.bytes (names_of out))) _ T s' h₁.1 in
           let j = typed_inj h₂.1 in
-          let out-not : among i.bytes (names_of out) ≡ false = not_true _ h₂.0 in
-          let ins = inside i.bytes z y n b (apart_later z y a) f (ap (λ (l : List Known). among i.bytes (names_of l)) (sym o) ∙ out-not) in
-          let in-s : find bytes_of i.bytes s ≡ some k = found_inside bytes_of i.bytes s out k g out-not in
-          let mk = marks i.bytes z m b k (apart_inner z y a) ins (ap (find bytes_of i.bytes) (sym e) ∙ in-s) q (not_true _ h₁.0) in
+          let out_not : among i.bytes (names_of out) ≡ false = not_true _ h₂.0 in
+          let ins = inside i.bytes z y n b (apart_later z y a) f (ap (λ (l : List Known). among i.bytes (names_of l)) (sym o) ∙ out_not) in
+          let in_s : find bytes_of i.bytes s ≡ some k = found_inside bytes_of i.bytes s out k g out_not in
+          let mk = marks i.bytes z m b k (apart_inner z y a) ins (ap (find bytes_of i.bytes) (sym e) ∙ in_s) q (not_true _ h₁.0) in
           let TIs : T ≡ k.type = sym j.0 in (
             mk.0,
             sym j.1 ∙ ap (mark i.bytes) e ∙ mk.1,
@@ -179,8 +179,8 @@ module _ (sigs : List Signature) (ops : List Op) (above : ℕ) where
           let h₄ = next_typed (ask_all sigs above out s ts) _ T s' h₃.1 in
           let h₅ = asks_typed types_fit i.place (same_all h₄.0 h₂.0.types) _ T s' h₄.3 in
           let j = typed_inj h₅.1 in
-          let f-is : f ≡ h₁.0 = cc h₁.1 in
-          let op = signs f h₂.0 (ap (nth sigs) f-is ∙ h₂.1) in
+          let f_is : f ≡ h₁.0 = cc h₁.1 in
+          let op = signs f h₂.0 (ap (nth sigs) f_is ∙ h₂.1) in
           let w = sound_all z y m n r ee a out s o e h₄.0 h₄.1 h₄.2 in (
             w.0,
             sym j.1 ∙ w.1,
@@ -286,15 +286,15 @@ module _ (sigs : List Signature) (ops : List Op) (above : ℕ) where
           let v = sound z y w.0 n r₁ ee a out h₁.1 o w.1 h₃.0 h₃.1 h₃.2 in
           let v' = sound z y w.0 n r₂ ee a out h₁.1 o w.1 h₄.0 h₄.1 h₄.2 in
           let left = agree_left z v.0 v'.0 h₃.1 h₄.1 v.1 v'.1 h₆.0 in
-          let same-uses : Same v'.2 v.2 = λ n. omega (arith, v.4 n, v'.4 n, left n) in
-          let c-typed = retype (same_eq _ _ h₂.0) w.3 in
-          let u-typed = retype (sym (same_eq _ _ h₅.0)) (reuse same-uses v'.3) in
+          let same_uses : Same v'.2 v.2 = λ n. omega (arith, v.4 n, v'.4 n, left n) in
+          let c_typed = retype (same_eq _ _ h₂.0) w.3 in
+          let u_typed = retype (sym (same_eq _ _ h₅.0)) (reuse same_uses v'.3) in
           let whole : Uses = λ n. w.2 n + v.2 n in
           as_found z y m j.0 (
             v.0,
             sym j.1 ∙ v.1,
             whole,
-            (has_if w.2 v.2 (λ n. refl) c-typed.0 v.3.0 u-typed.0, (c-typed.1, (v.3.1, u-typed.1))),
+            (has_if w.2 v.2 (λ n. refl) c_typed.0 v.3.0 u_typed.0, (c_typed.1, (v.3.1, u_typed.1))),
             λ n. omega (arith, w.4 n, v.4 n),
           )
 

@@ -310,8 +310,8 @@ hand_inside b z y m n e a h l = go (find bound_name b (map bound y)) refl
     go : (o : Option Bound) → find bound_name b (map bound y) ≡ o → (find bound_name b (map bound y) ≡ none) × (find bound_name b (map bound z) ≡ some e)
     go none q = let w = find_append bound_name b bound z y in (q, rw q at (sym w ∙ h))
     go (some c) q =
-        let w = find_append bound_name b bound z y in let v : some c ≡ some e = rw q at (sym w ∙ h) in let c-is : c ≡ e = cc in
-        let f = found b y n e (apart_later z y a) (q ∙ ap some c-is) in
+        let w = find_append bound_name b bound z y in let v : some c ≡ some e = rw q at (sym w ∙ h) in let c_is : c ≡ e = cc in
+        let f = found b y n e (apart_later z y a) (q ∙ ap some c_is) in
         never (omega (arith, outside_none z y m e.number (as_bound f.0.settable f.0.type) a f.2))
 
 apart_once : (Γ : Scope) (x y : ℕ) (c : Binding) → Γ (var x) ≡ none → Γ (var y) ≡ some c → once (var x) (var y) ≡ 0
@@ -360,8 +360,8 @@ hand_unspent b (t ∷ z) y m e k a h j l =
         let here : find bytes_of b (marked (t ∷ z) m) ≡ some f.0 = rw f.1 in
         let same : f.0 ≡ k = cc in
         let not_t : once (var t.number) (var e.number) ≡ 0 = apart_once (scope z) t.number e.number _ (apart_scope z y t.number a.0) f.2 in
-        let none-t = zero_of (linear t.type && not (head m)) not_t in
-        ih q' (f.1 ∙ ap some same) (omega (arith, l, none-t))
+        let none_t = zero_of (linear t.type && not (head m)) not_t in
+        ih q' (f.1 ∙ ap some same) (omega (arith, l, none_t))
 
 -- branches that leave the same agree
 pub avail_agree : (z y : List Tie) (m₁ m₂ : List Bool) → Apart (z ++ y) → ((n : Name) → avail z m₁ n ≡ avail z m₂ n) → agree (marked z m₁) (marked z m₂) ≡ true

@@ -1,7 +1,7 @@
 -- The walk accepts each whole listing that has a typing.
 use Rattle.std.proofs.Common.{◌≡◌, ℕ, zero, suc, ◌+◌, Bool, true, false, cond, List, [], ◌∷◌, length, sym, refl, ap, ◌∙◌, subst, arith, le-leb}
 use mathlib.Core.Option.{Option, none, some}
-use Rattle.syntax.specs.Trees.{Written, basic, tuple_type, Writtens, no_types as no-writtens, ◌∷ʷ◌, Parameter, Operation, Program}
+use Rattle.syntax.specs.Trees.{Written, basic, tuple_type, Writtens, no_types as no_writtens, ◌∷ʷ◌, Parameter, Operation, Program}
 use Rattle.calculus.specs.Syntax.{Ty, Tys, no_types, ◌∷ᵗ◌, Op, Term}
 use Rattle.calculus.specs.Rules.{fixed, nothing, nowhere, nth, Has, Under}
 use Rattle.calculus.proofs.Names.{never}
@@ -32,7 +32,7 @@ mutual
       is_few b q = rw q
 
   few_wide_all : (ws : Writtens) → WrittenFewAll ws → too_wide_all ws ≡ none
-  few_wide_all no-writtens h = refl
+  few_wide_all no_writtens h = refl
   few_wide_all (w ∷ʷ ws) h = first_go (few_wide w h.0) (few_wide_all ws h.1)
 
 -- the question of a written type

@@ -1,7 +1,7 @@
 -- The limit on leaves: every written type and every tuple has at most 8. A tuple is one whose parts have types; of a tuple whose parts have none nothing is asked, since no typing
 -- has it.
 use Rattle.std.specs.Prelude.{ℕ, ◌≤◌, List, [], ◌∷◌}
-use Rattle.syntax.specs.Trees.{Written, basic, tuple_type, Writtens, no_types as no-writtens, ◌∷ʷ◌, Parameter, Operation}
+use Rattle.syntax.specs.Trees.{Written, basic, tuple_type, Writtens, no_types as no_writtens, ◌∷ʷ◌, Parameter, Operation}
 use Rattle.calculus.specs.Syntax.{Ty, Tys, leaves_all, Form, tupling, meas, gate, call, Op, Term, Terms}
 use Rattle.calculus.specs.Rules.{Uses, Binding, Scope, Has, has_give, has_done, has_name, has_build, has_bind, has_mut, has_set, has_using, has_if}
 use Rattle.calculus.specs.Rules.{Parts, parts_none, parts_more, Under, under_none, under_more}
@@ -17,7 +17,7 @@ abbrev mutual
   WrittenFew (tuple_type p ws) = WrittenFewAll ws × Few (as_types ws)
 
   pub WrittenFewAll : Writtens → Type 0
-  WrittenFewAll no-writtens = Unit {0}
+  WrittenFewAll no_writtens = Unit {0}
   WrittenFewAll (w ∷ʷ ws) = WrittenFew w × WrittenFewAll ws
 
 abbrev pub ParametersFew : List Parameter → Type 0

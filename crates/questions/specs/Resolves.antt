@@ -4,9 +4,9 @@
 use Rattle.std.specs.Prelude.{◌≡◌, ℕ, suc, ◌<◌, Bool, true, false, ◌||◌, List, [], ◌∷◌, map, length, take, ◌==◌}
 use Rattle.std.proofs.Math.Option.{some}
 use Rattle.machine.specs.declared.order.Gate.{Gate}
-use Rattle.syntax.specs.Trees.{Identifier, Constant, unit as unit-constant, zero_bit, one_bit, number as number-constant, by_let, by_mut, by_set}
-use Rattle.syntax.specs.Trees.{Pattern as Tree-pattern, one as one_name, several as several-names}
-use Rattle.syntax.specs.Trees.{Tree, constant, named, call as call-tree, meas as meas-tree, apply, tuple as tuple-tree, bind as bind-tree, prepare, choose, Trees, no_trees, ◌∷ᵗ◌ as ◌∷ᵉ◌}
+use Rattle.syntax.specs.Trees.{Identifier, Constant, unit as unit_constant, zero_bit, one_bit, number as number_constant, by_let, by_mut, by_set}
+use Rattle.syntax.specs.Trees.{Pattern as TreePattern, one as one_name, several as several_names}
+use Rattle.syntax.specs.Trees.{Tree, constant, named, call as call_tree, meas as meas_tree, apply, tuple as tuple_tree, bind as bind_tree, prepare, choose, Trees, no_trees, ◌∷ᵗ◌ as ◌∷ᵉ◌}
 use Rattle.syntax.specs.Trees.{Operation, Program}
 use Rattle.calculus.specs.Syntax.{Value, the_unit, bit_of, int_of, Name, var, Pattern, one, several, names, tupling, meas, gate, call, Op}
 use Rattle.calculus.specs.Syntax.{Term, give, name, build, bind, mut, set, using_in, if_else, Terms, no_terms, ◌∷ˢ◌}
@@ -32,15 +32,15 @@ numbered x [] = false
 numbered x (b ∷ env) = b.number == x || numbered x env
 
 abbrev pub value : Constant → Value
-value unit-constant = the_unit
+value unit_constant = the_unit
 value zero_bit = bit_of false
 value one_bit = bit_of true
-value (number-constant n) = int_of n
+value (number_constant n) = int_of n
 
 -- both are one name, or both are several
-pub data Alike {N : Type 0} : Tree-pattern → Pattern N → Type 0 where
+pub data Alike {N : Type 0} : TreePattern → Pattern N → Type 0 where
   alike_one : {i : Identifier} {x : N} → Alike (one_name i) (one x)
-  alike_several : {is : List Identifier} {xs : List N} → Alike (several-names is) (several xs)
+  alike_several : {is : List Identifier} {xs : List N} → Alike (several_names is) (several xs)
 
 -- the names of a set pattern: none twice, each in scope
 pub data Sets (env : Environment) : List (List ℕ) → List Identifier → List Name → Type 0 where
@@ -55,17 +55,17 @@ module _ (ops : List (List ℕ)) (above : ℕ) where
       res_constant : {env : Environment} {p : ℕ} {c : Constant} → Resolves env (constant p c) (give p (value c))
       res_name : {env : Environment} {i : Identifier} → (b : Bound) → find bound_name i.bytes env ≡ some b → Resolves env (named i) (name i.place (var b.number))
       res_call : {env : Environment} {i : Identifier} {ts : Trees} {us : Terms} → (f : ℕ) → position i.bytes ops ≡ some f → f < above → ResolvesAll env ts us →
-          Resolves env (call-tree i ts) (build i.place (call f) us)
-      res_meas : {env : Environment} {p : ℕ} {t : Tree} {u : Term} → Resolves env t u → Resolves env (meas-tree p t) (build p meas (u ∷ˢ no_terms))
+          Resolves env (call_tree i ts) (build i.place (call f) us)
+      res_meas : {env : Environment} {p : ℕ} {t : Tree} {u : Term} → Resolves env t u → Resolves env (meas_tree p t) (build p meas (u ∷ˢ no_terms))
       res_gate : {env : Environment} {p : ℕ} {g : Gate} {ts : Trees} {us : Terms} → ResolvesAll env ts us → Resolves env (apply p g ts) (build p (gate g) us)
-      res_tuple : {env : Environment} {p : ℕ} {ts : Trees} {us : Terms} → ResolvesAll env ts us → Resolves env (tuple-tree p ts) (build p tupling us)
-      res_let : {env : Environment} {p : ℕ} {is : Tree-pattern} {xs : Pattern ℕ} {e t : Tree} {e' t' : Term} → Alike is xs → Resolves env e e' →
-          ResolvesUnder env (identifiers is) (names xs) t t' → Resolves env (bind-tree p by_let is e t) (bind p xs e' t')
-      res_mut : {env : Environment} {p : ℕ} {is : Tree-pattern} {xs : Pattern ℕ} {e t : Tree} {e' t' : Term} → Alike is xs → Resolves env e e' →
-          ResolvesUnder env (identifiers is) (names xs) t t' → Resolves env (bind-tree p by_mut is e t) (mut p xs e' t')
-      res_set : {env : Environment} {p : ℕ} {is : Tree-pattern} {ns : Pattern Name} {e t : Tree} {e' t' : Term} → Alike is ns → Sets env [] (identifiers is) (names ns) →
-          Resolves env e e' → Resolves env t t' → Resolves env (bind-tree p by_set is e t) (set p ns e' t')
-      res_using : {env : Environment} {p : ℕ} {is : Tree-pattern} {xs : Pattern ℕ} {t : Tree} {t' : Term} → Alike is xs →
+      res_tuple : {env : Environment} {p : ℕ} {ts : Trees} {us : Terms} → ResolvesAll env ts us → Resolves env (tuple_tree p ts) (build p tupling us)
+      res_let : {env : Environment} {p : ℕ} {is : TreePattern} {xs : Pattern ℕ} {e t : Tree} {e' t' : Term} → Alike is xs → Resolves env e e' →
+          ResolvesUnder env (identifiers is) (names xs) t t' → Resolves env (bind_tree p by_let is e t) (bind p xs e' t')
+      res_mut : {env : Environment} {p : ℕ} {is : TreePattern} {xs : Pattern ℕ} {e t : Tree} {e' t' : Term} → Alike is xs → Resolves env e e' →
+          ResolvesUnder env (identifiers is) (names xs) t t' → Resolves env (bind_tree p by_mut is e t) (mut p xs e' t')
+      res_set : {env : Environment} {p : ℕ} {is : TreePattern} {ns : Pattern Name} {e t : Tree} {e' t' : Term} → Alike is ns → Sets env [] (identifiers is) (names ns) →
+          Resolves env e e' → Resolves env t t' → Resolves env (bind_tree p by_set is e t) (set p ns e' t')
+      res_using : {env : Environment} {p : ℕ} {is : TreePattern} {xs : Pattern ℕ} {t : Tree} {t' : Term} → Alike is xs →
           ResolvesUnder env (identifiers is) (names xs) t t' → Resolves env (prepare p is t) (using_in p xs t')
       res_if : {env : Environment} {p : ℕ} {c t u : Tree} {c' t' u' : Term} → Resolves env c c' → Resolves env t t' → Resolves env u u' →
           Resolves env (choose p c t u) (if_else p c' t' u')

@@ -1,7 +1,7 @@
 -- Types as they are written, and when two types are the same.
 use Rattle.std.specs.Prelude.{ℕ, Bool, true, false, cond, ◌&&◌, nat_le}
 use Rattle.std.proofs.Math.Option.{Option, none, some}
-use Rattle.syntax.specs.Trees.{Basic, unit_type, bit_type, int_type, qbit_type, Written, basic, tuple_type, Writtens, no_types as no-writtens, ◌∷ʷ◌}
+use Rattle.syntax.specs.Trees.{Basic, unit_type, bit_type, int_type, qbit_type, Written, basic, tuple_type, Writtens, no_types as no_writtens, ◌∷ʷ◌}
 use Rattle.calculus.specs.Syntax.{Ty, unit, bit, int, qbit, tuple, Tys, no_types, ◌∷ᵗ◌, leaves_all}
 use Rattle.questions.specs.Names.{first_of}
 
@@ -52,7 +52,7 @@ abbrev mutual
   as_type (tuple_type p ws) = tuple (as_types ws)
 
   pub as_types : Writtens → Tys
-  as_types no-writtens = no_types
+  as_types no_writtens = no_types
   as_types (w ∷ʷ ws) = as_type w ∷ᵗ as_types ws
 
 -- at most 8 leaves
@@ -66,5 +66,5 @@ abbrev mutual
   too_wide (tuple_type p ws) = first_of (too_wide_all ws) (cond (few (as_types ws)) none (some p))
 
   pub too_wide_all : Writtens → Option ℕ
-  too_wide_all no-writtens = none
+  too_wide_all no_writtens = none
   too_wide_all (w ∷ʷ ws) = first_of (too_wide w) (too_wide_all ws)

@@ -6,8 +6,8 @@ use Rattle.std.specs.Bool.{beq}
 use Rattle.std.proofs.Math.Option.{Option, none, some}
 use Rattle.std.specs.Str.{bytes_eq}
 use Rattle.machine.specs.Orders.{width}
-use Rattle.syntax.specs.Trees.{Identifier, Pattern, one, several, Constant, unit as unit-constant, zero_bit, one_bit, number as number-constant, by_let, by_mut, by_set}
-use Rattle.syntax.specs.Trees.{Tree, constant, named, call, meas, apply, tuple as tuple-tree, bind, prepare, choose, Trees, no_trees, ◌∷ᵗ◌ as ◌∷ᵉ◌, Parameter, Operation, Program}
+use Rattle.syntax.specs.Trees.{Identifier, Pattern, one, several, Constant, unit as unit_constant, zero_bit, one_bit, number as number_constant, by_let, by_mut, by_set}
+use Rattle.syntax.specs.Trees.{Tree, constant, named, call, meas, apply, tuple as tuple_tree, bind, prepare, choose, Trees, no_trees, ◌∷ᵗ◌ as ◌∷ᵉ◌, Parameter, Operation, Program}
 use Rattle.calculus.specs.Syntax.{Ty, unit, bit, int, qbit, tuple, Tys, no_types, ◌∷ᵗ◌, linear}
 use Rattle.calculus.specs.Rules.{qbits, together, nth}
 use Rattle.questions.specs.Names.{first_of, find, among, position}
@@ -35,10 +35,10 @@ identifiers (one i) = i ∷ []
 identifiers (several is) = is
 
 abbrev pub constant_type : Constant → Ty
-constant_type unit-constant = unit
+constant_type unit_constant = unit
 constant_type zero_bit = bit
 constant_type one_bit = bit
-constant_type (number-constant n) = int
+constant_type (number_constant n) = int
 
 -- no new name: that of an operation, or of a name in scope
 abbrev pub taken : List ℕ → List (List ℕ) → List (List ℕ) → Bool
@@ -88,9 +88,9 @@ spread (several is) T = parts_for is T
 
 -- the names come into scope, from left to right
 abbrev pub bring : Bool → List Identifier → Tys → List Known → List Known
-bring may-set [] Ts s = s
-bring may-set (i ∷ is) no_types s = s
-bring may-set (i ∷ is) (T ∷ᵗ Ts) s = bring may-set is Ts (record { name = i; type = T; settable = may-set; spent = false } ∷ s)
+bring may_set [] Ts s = s
+bring may_set (i ∷ is) no_types s = s
+bring may_set (i ∷ is) (T ∷ᵗ Ts) s = bring may_set is Ts (record { name = i; type = T; settable = may_set; spent = false } ∷ s)
 
 abbrev pub outer : List Known → List Known
 outer [] = []
@@ -142,7 +142,7 @@ module _ (ops : List Signature) (above : ℕ) where
         asks is_above i.place (nat_lt f above) (next (ask_all out s ts) (λ Ts s'. asks types_fit i.place (same_all Ts o.types) (typed o.result s')))))
     ask out s (meas p t) = next (ask out s t) (λ T s'. asks types_fit p (same T qbit) (typed bit s'))
     ask out s (apply p g ts) = next (ask_all out s ts) (λ Ts s'. asks types_fit p (same_all Ts (qbits (width g))) (typed (together Ts) s'))
-    ask out s (tuple-tree p ts) = next (ask_all out s ts) (λ Ts s'. asks few_leaves p (few Ts) (typed (tuple Ts) s'))
+    ask out s (tuple_tree p ts) = next (ask_all out s ts) (λ Ts s'. asks few_leaves p (few Ts) (typed (tuple Ts) s'))
     ask out s (bind p by_let xs e t) =
         unless is_new (first_taken (op_names ops) (names_of (s ++ out)) (identifiers xs))
         (next (ask out s e) (λ T s'. given types_fit p (spread xs T) (λ Ts.

@@ -170,14 +170,14 @@ module _ {ops : List Op} {P : Code} {T : List Value} {μ : Table} {vals : List V
           (names_pattern (entries P r) ∙ eq) (step_bind ws tk)) a
       go Mut u lb lr lk own mb a =
           let eq = own_row true own lr in
-          let long-names : length (names (pattern (entries P r))) ≡ c = ap length (names_pattern (entries P r) ∙ eq) ∙ range_length r.first c in
+          let long_names : length (names (pattern (entries P r))) ≡ c = ap length (names_pattern (entries P r) ∙ eq) ∙ range_length r.first c in
           enters_mutables σ r.first c ws lb (omega (arith, lr, lk)) (omega (arith, long, kn)) (λ y l h. (own y l (omega (arith, h, lr))).1)
           (bind_many μ σ Mut (P.place k) (entries P r) v ws (close σ u) tk (middle a ty) ∙ ap length eq ∙ range_length r.first c)
           (λ y l h. within_low σ y (omega (arith, h, lr, lk)) wi) (within_lower σ (omega (arith, lb, lr, lk)) wi) ti mb
           (eT ∙ ap (λ (xs : List ℕ). wrote xs (items ws) T) eq)
           (subst (λ (xs : List ℕ). Step ops (mut (P.place k) (pattern (entries P r)) (done v) (close σ u)) μ (P.place k) (within r) []
           (puts xs (map by_entry (within r)) (close σ u)) (written (within r) ws μ))
-          (names_pattern (entries P r) ∙ eq) (step_mut ws tk (range_length r.first c ∙ sym long-names)))
+          (names_pattern (entries P r) ∙ eq) (step_mut ws tk (range_length r.first c ∙ sym long_names)))
           (clear_value (within r) v, clear_shape P (within r) σ (λ y z. range_above y r.first c (omega (arith, lr, lk, (within_at σ wi z).0))) mb) a
       go Set u lb lr lk apart mb a =
           let xs = entries P r in
