@@ -1,4 +1,5 @@
 pub mod Given
+pub mod KindNumbers
 pub mod Lexing
 pub mod Lookups
 pub mod Numerals

@@ -1,5 +1,6 @@
 -- The kinds by number, in the order in which they are declared.
-use Rattle.std.specs.Prelude.{ℕ}
+use Rattle.std.specs.Prelude.{◌≡◌, ℕ, Decides, nat_eq}
+use Rattle.std.specs.Ordering.{on}
 use Rattle.words.specs.declared.token.Kind.{Kind}
 use Rattle.words.specs.declared.token.Kind.TheVariants.{Open, Close, LeftBrace, RightBrace, Comma, Equals, Colon, Op, Run, Let, Mut, Set, Using, In, If, Then, Else, Meas, Unit, Bit, Int, Qbit, Zero, One}
 
@@ -28,3 +29,7 @@ kind_number Int = 20
 kind_number Qbit = 21
 kind_number Zero = 22
 kind_number One = 23
+
+-- kinds of one number are the same kind, so a comparison of the numbers says whether two kinds are the same
+abbrev pub NumbersDecide : Type 0
+NumbersDecide = (j k : Kind) → Decides (on kind_number nat_eq j k) (j ≡ k)

@@ -1,4 +1,5 @@
 // Laws of the words of a listing: each function's promise is the law.
+ghost use Rattle.words.specs.Kinds.{NumbersDecide};
 ghost use Rattle.words.specs.Laws.{AcceptedExactly, RefusedExactly, PlacesRise, WordsAreParts, NoMoreWordsThanBytes, BadWordsAreWithin, WordsAreSpelled};
 
 // A listing is accepted with the words xs exactly where it is these words in order, each good, whole and after blanks or none, and blanks or none at its end.
@@ -33,4 +34,9 @@ pub fn bad_words_are_within()
 // Names, numbers, gates and the others are spelled as they should be, and no name is reserved.
 pub fn words_are_spelled()
     ensures { WordsAreSpelled }
+{}
+
+// A comparison of the numbers of two kinds says whether they are the same.
+pub fn numbers_decide()
+    ensures { NumbersDecide }
 {}
