@@ -1,5 +1,5 @@
 // The syntax tree of a listing: an arena of nodes. The nodes of a construct's parts stand before its own.
-ghost use Rattle.std.specs.Prelude.{◌≡◌, true, length, IfOk};
+ghost use Rattle.std.specs.Prelude.{◌≡◌, ◌-◌, true, length, IfOk};
 ghost use Rattle.grammar.specs.Arena.{At};
 ghost use Rattle.grammar.specs.Trees.{Falls};
 ghost use Rattle.grammar.specs.Parsing as parsing;
@@ -14,11 +14,28 @@ pub struct Name {
     pub span: usize,
 }
 
-// The entries of a table from `first` to `end`, `end` left out.
+// The entries of a table from `first` to `end`, `end` left out. The ranges of the library are not `Copy`, as what holds this is.
 #[derive(Clone, Copy)]
 pub struct Range {
     pub first: usize,
     pub end: usize,
+}
+
+impl Range {
+    // How many entries there are.
+    pub fn len(&self) -> usize
+        ensures { result ≡ self.now.end - self.now.first }
+    {
+        self.end.saturating_sub(self.first)
+    }
+
+    // The numbers of the entries.
+    pub fn numbers(&self) -> std::ops::Range<usize>
+        ensures first { result.start ≡ self.now.first }
+        ensures end { result.end ≡ self.now.end }
+    {
+        self.first..self.end
+    }
 }
 
 #[derive(Clone, Copy)]

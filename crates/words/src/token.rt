@@ -3,6 +3,7 @@ ghost use Rattle.std.specs.Prelude.{◌≡◌, Decides, nat_eq};
 ghost use Rattle.std.specs.Cmp.{nat_eq_equiv, on_equiv, partial_equiv_from_equiv};
 ghost use Rattle.std.specs.Ordering.{on};
 ghost use Rattle.words.specs.Kinds.{kind_number};
+ghost use Rattle.words.specs.Words.{seen};
 ghost use Rattle.words.specs.declared.token.WordFault.TheVariants.{Memory};
 
 use machine::order::Gate;
@@ -75,6 +76,32 @@ pub enum Word<'a> {
         place: usize,
         kind: Kind,
     },
+}
+
+impl<'a> Word<'a> {
+    // The bytes of the word.
+    pub fn text(&self) -> &'a [u8]
+        ensures { result.now ≡ (seen self.now).bytes }
+    {
+        match self {
+            Word::Name { text, .. }
+            | Word::Number { text, .. }
+            | Word::Gate { text, .. }
+            | Word::Fixed { text, .. } => text,
+        }
+    }
+
+    // Where the word begins in the listing.
+    pub fn place(&self) -> usize
+        ensures { result ≡ (seen self.now).place }
+    {
+        match self {
+            Word::Name { place, .. }
+            | Word::Number { place, .. }
+            | Word::Gate { place, .. }
+            | Word::Fixed { place, .. } => *place,
+        }
+    }
 }
 
 #[derive(Clone, Copy)]
