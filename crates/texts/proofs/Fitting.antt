@@ -1,6 +1,7 @@
 -- Decimals and the refused line, as far as there is room.
-use Rattle.std.proofs.Common.{◌≡◌, ℕ, ◌+◌, ◌/◌, ◌%◌, ◌^◌, ◌<◌, ◌≤◌, List, [], ◌∷◌, ◌++◌, length, decimal, sym, ap, ◌∙◌, arith}
-use Rattle.std.proofs.lemmas.List.{length-append}
+use Rattle.std.proofs.Common.{◌≡◌, ℕ, ◌+◌, ◌/◌, ◌%◌, ◌^◌, ◌<◌, ◌≤◌, List, [], ◌∷◌, ◌++◌, length, take, min, decimal, sym, ap, ◌∙◌, arith}
+use Rattle.std.proofs.lemmas.List.{length-append, take_all, take-append-le, take_min}
+use Rattle.std.proofs.Math.Seq.{take-append-add}
 use Rattle.lists.proofs.Bounded.{fit_whole, push_on}
 use Rattle.std.proofs.lemmas.Fmt.{decimal_digit, decimal_step, length-decimal-le}
 use Rattle.faults.specs.declared.fault.Diagnosis.{Diagnosis}
@@ -50,3 +51,17 @@ seven t₀ t₁ t₂ t₃ t₄ t₅ t₆ t₇ a b c d e f g z p₁ p₂ p₃ p�
     (push_on 256 t₃ t₄ t₇ d (e ++ (f ++ g)) p₄
     (push_on 256 t₄ t₅ t₇ e (f ++ g) p₅
     (push_on 256 t₅ t₆ t₇ f g p₆ p₇)))))) short
+
+-- a byte that has room
+pub fits_one : (held : List ℕ) (x : ℕ) → length held < 256 → held ++ (x ∷ []) ≡ fitted (held ++ (x ∷ []))
+fits_one held x lt = sym (take_all 256 (held ++ (x ∷ [])) (simp length-append (omega arith)))
+
+-- a byte that has none
+pub fits_none : (held : List ℕ) (x : ℕ) → length held ≡ 256 → held ≡ fitted (held ++ (x ∷ []))
+fits_none held x full = sym (take-append-le 256 held (x ∷ []) (omega arith) ∙ take_all 256 held (omega arith))
+
+-- as much of a piece as has room
+pub fits_piece : (held piece : List ℕ) (n left : ℕ) → n ≡ min left (length piece) → left + length held ≡ 256 → held ++ take n piece ≡ fitted (held ++ piece)
+fits_piece held piece n left m e =
+    let room : length held + left ≡ 256 = omega arith in
+    ap (λ k. held ++ take k piece) m ∙ ap (λ l. held ++ l) (take_min left piece) ∙ sym (take-append-add held piece left) ∙ ap (λ n. take n (held ++ piece)) room

@@ -30,6 +30,6 @@ pub fn refused_line(diagnosis: Diagnosis) -> Text
     text.push_decimal(u64::from(diagnosis.number));
     text.push(b' ');
     text.push_decimal(diagnosis.place as u64);
-    text.push(10);
+    text.push(b'\n');
     text
 }
