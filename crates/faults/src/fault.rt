@@ -1,6 +1,6 @@
 // Why a call is refused: the part that found it, its number and its place.
-ghost use Rattle.std.specs.Prelude.{◌≡◌, Some};
-ghost use Rattle.faults.specs.Faults.{from_bench, from_word, from_grammar, from_rule, from_need, bench_diagnosis, rule_diagnosis, diagnosis};
+ghost use Rattle.std.specs.Prelude.{◌≡◌};
+ghost use Rattle.faults.specs.Faults.{from_bench, from_word, from_grammar, from_rule, from_need, bench_number, diagnosis};
 ghost use Rattle.faults.specs.declared.fault.Fault.TheVariants.{Memory, Machine};
 
 use grammar::parse::GrammarFault;
@@ -20,21 +20,21 @@ pub enum Layer {
     Bench,
 }
 
-// The bench's own refusals.
+// The bench's own refusals, by their numbers.
 #[derive(Clone, Copy)]
 pub enum BenchFault {
-    // 1: the bench is not empty
-    Loaded,
-    // 2: the listing has more than 2048 bytes
-    TooLong,
-    // 17: nothing is loaded
-    Unloaded,
-    // 18: the run has ended
-    Ended,
-    // 19: the run has not ended
-    Running,
-    // 20: the buffer does not suffice
-    Short,
+    // the bench is not empty
+    Loaded = 1,
+    // the listing has more than 2048 bytes
+    TooLong = 2,
+    // nothing is loaded
+    Unloaded = 17,
+    // the run has ended
+    Ended = 18,
+    // the run has not ended
+    Running = 19,
+    // the buffer does not suffice
+    Short = 20,
 }
 
 #[derive(Clone, Copy)]
@@ -120,49 +120,16 @@ impl From<Refusal> for Fault {
 impl From<AllocError> for Fault {
     ghost from_gives = { λ _ r. r ≡ Memory };
 
-    fn from(_e: AllocError) -> Fault {
+    fn from(_: AllocError) -> Fault {
         Fault::Memory
     }
 }
 
-fn at(layer: Layer, number: u8, place: usize) -> Option<Diagnosis>
-    ensures { result ≡ Some (record { layer = layer; number = number; place = place }) }
-{
-    Some(Diagnosis {
-        layer,
-        number,
-        place,
-    })
-}
-
-fn bench_diagnosis(fault: BenchFault) -> Option<Diagnosis>
-    ensures { result ≡ bench_diagnosis fault }
-{
-    match fault {
-        BenchFault::Loaded => at(Layer::Bench, 1, 0),
-        BenchFault::TooLong => at(Layer::Bench, 2, 0),
-        BenchFault::Unloaded => at(Layer::Bench, 17, 0),
-        BenchFault::Ended => at(Layer::Bench, 18, 0),
-        BenchFault::Running => at(Layer::Bench, 19, 0),
-        BenchFault::Short => at(Layer::Bench, 20, 0),
-    }
-}
-
-fn rule_diagnosis(fault: RuleFault) -> Option<Diagnosis>
-    ensures { result ≡ rule_diagnosis fault }
-{
-    match fault {
-        RuleFault::Leaves { place } => at(Layer::Rule, 5, place),
-        RuleFault::Taken { place } => at(Layer::Rule, 6, place),
-        RuleFault::Unknown { place } => at(Layer::Rule, 7, place),
-        RuleFault::Below { place } => at(Layer::Rule, 8, place),
-        RuleFault::Spent { place } => at(Layer::Rule, 9, place),
-        RuleFault::Outside { place } => at(Layer::Rule, 10, place),
-        RuleFault::Misfit { place } => at(Layer::Rule, 11, place),
-        RuleFault::Fixed { place } => at(Layer::Rule, 12, place),
-        RuleFault::Branches { place } => at(Layer::Rule, 13, place),
-        RuleFault::Unspent { place } => at(Layer::Rule, 14, place),
-        RuleFault::Memory => None,
+impl BenchFault {
+    fn number(self) -> u8
+        ensures { result ≡ bench_number self }
+    {
+        self as u8
     }
 }
 
@@ -171,24 +138,33 @@ impl Fault {
     pub fn diagnosis(&self) -> Option<Diagnosis>
         ensures { result ≡ diagnosis self.now }
     {
-        match *self {
-            Fault::Bench(fault) => bench_diagnosis(fault),
-            Fault::Word(fault) => match fault {
-                WordFault::Bad { place } => at(Layer::Word, 3, place),
-                WordFault::Memory => None,
-            },
-            Fault::Grammar(fault) => match fault {
-                GrammarFault::Stuck { place } => at(Layer::Grammar, 4, place),
-                GrammarFault::Memory => None,
-            },
-            Fault::Rule(fault) => rule_diagnosis(fault),
-            Fault::Need(fault) => match fault {
-                NeedFault::Steps { place } => at(Layer::Need, 15, place),
-                NeedFault::Peak { place } => at(Layer::Need, 16, place),
-                NeedFault::Memory => None,
-            },
-            Fault::Machine(refusal) => at(Layer::Machine, refusal.number(), 0),
-            Fault::Memory => None,
-        }
+        let (layer, number, place) = match *self {
+            Fault::Bench(fault) => (Layer::Bench, fault.number(), 0),
+            Fault::Word(WordFault::Bad { place }) => (Layer::Word, 3, place),
+            Fault::Grammar(GrammarFault::Stuck { place }) => (Layer::Grammar, 4, place),
+            Fault::Rule(RuleFault::Leaves { place }) => (Layer::Rule, 5, place),
+            Fault::Rule(RuleFault::Taken { place }) => (Layer::Rule, 6, place),
+            Fault::Rule(RuleFault::Unknown { place }) => (Layer::Rule, 7, place),
+            Fault::Rule(RuleFault::Below { place }) => (Layer::Rule, 8, place),
+            Fault::Rule(RuleFault::Spent { place }) => (Layer::Rule, 9, place),
+            Fault::Rule(RuleFault::Outside { place }) => (Layer::Rule, 10, place),
+            Fault::Rule(RuleFault::Misfit { place }) => (Layer::Rule, 11, place),
+            Fault::Rule(RuleFault::Fixed { place }) => (Layer::Rule, 12, place),
+            Fault::Rule(RuleFault::Branches { place }) => (Layer::Rule, 13, place),
+            Fault::Rule(RuleFault::Unspent { place }) => (Layer::Rule, 14, place),
+            Fault::Need(NeedFault::Steps { place }) => (Layer::Need, 15, place),
+            Fault::Need(NeedFault::Peak { place }) => (Layer::Need, 16, place),
+            Fault::Machine(refusal) => (Layer::Machine, refusal.number(), 0),
+            Fault::Word(WordFault::Memory)
+            | Fault::Grammar(GrammarFault::Memory)
+            | Fault::Rule(RuleFault::Memory)
+            | Fault::Need(NeedFault::Memory)
+            | Fault::Memory => return None,
+        };
+        Some(Diagnosis {
+            layer,
+            number,
+            place,
+        })
     }
 }
