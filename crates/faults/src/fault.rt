@@ -1,6 +1,6 @@
 // Why a call is refused: the part that found it, its number and its place.
 ghost use Rattle.std.specs.Prelude.{◌≡◌};
-ghost use Rattle.faults.specs.Faults.{from_bench, from_word, from_grammar, from_rule, from_need, bench_number, diagnosis};
+ghost use Rattle.faults.specs.Faults.{from_bench, from_word, from_grammar, from_rule, from_need, layer_word, bench_number, diagnosis};
 ghost use Rattle.faults.specs.declared.fault.Fault.TheVariants.{Memory, Machine};
 
 use grammar::parse::GrammarFault;
@@ -18,6 +18,21 @@ pub enum Layer {
     Rule,
     Need,
     Bench,
+}
+
+impl Layer {
+    pub fn word(&self) -> &'static [u8]
+        ensures { result.now ≡ layer_word self.now }
+    {
+        match self {
+            Self::Machine => b"machine",
+            Self::Word => b"word",
+            Self::Grammar => b"grammar",
+            Self::Rule => b"rule",
+            Self::Need => b"need",
+            Self::Bench => b"bench",
+        }
+    }
 }
 
 // The bench's own refusals, by their numbers.
@@ -57,21 +72,22 @@ pub struct Diagnosis {
     pub place: usize,
 }
 
+// By hand: each layer's want of memory is the bench's own, a derived From has no contract, and a macro of this repository may not write an impl.
 impl From<BenchFault> for Fault {
     ghost from_gives = { λ e r. r ≡ from_bench e };
 
-    fn from(e: BenchFault) -> Fault {
-        Fault::Bench(e)
+    fn from(e: BenchFault) -> Self {
+        Self::Bench(e)
     }
 }
 
 impl From<WordFault> for Fault {
     ghost from_gives = { λ e r. r ≡ from_word e };
 
-    fn from(e: WordFault) -> Fault {
+    fn from(e: WordFault) -> Self {
         match e {
-            WordFault::Memory => Fault::Memory,
-            _ => Fault::Word(e),
+            WordFault::Memory => Self::Memory,
+            _ => Self::Word(e),
         }
     }
 }
@@ -79,10 +95,10 @@ impl From<WordFault> for Fault {
 impl From<GrammarFault> for Fault {
     ghost from_gives = { λ e r. r ≡ from_grammar e };
 
-    fn from(e: GrammarFault) -> Fault {
+    fn from(e: GrammarFault) -> Self {
         match e {
-            GrammarFault::Memory => Fault::Memory,
-            _ => Fault::Grammar(e),
+            GrammarFault::Memory => Self::Memory,
+            _ => Self::Grammar(e),
         }
     }
 }
@@ -90,10 +106,10 @@ impl From<GrammarFault> for Fault {
 impl From<RuleFault> for Fault {
     ghost from_gives = { λ e r. r ≡ from_rule e };
 
-    fn from(e: RuleFault) -> Fault {
+    fn from(e: RuleFault) -> Self {
         match e {
-            RuleFault::Memory => Fault::Memory,
-            _ => Fault::Rule(e),
+            RuleFault::Memory => Self::Memory,
+            _ => Self::Rule(e),
         }
     }
 }
@@ -101,10 +117,10 @@ impl From<RuleFault> for Fault {
 impl From<NeedFault> for Fault {
     ghost from_gives = { λ e r. r ≡ from_need e };
 
-    fn from(e: NeedFault) -> Fault {
+    fn from(e: NeedFault) -> Self {
         match e {
-            NeedFault::Memory => Fault::Memory,
-            _ => Fault::Need(e),
+            NeedFault::Memory => Self::Memory,
+            _ => Self::Need(e),
         }
     }
 }
@@ -112,16 +128,16 @@ impl From<NeedFault> for Fault {
 impl From<Refusal> for Fault {
     ghost from_gives = { λ e r. r ≡ Machine e };
 
-    fn from(e: Refusal) -> Fault {
-        Fault::Machine(e)
+    fn from(e: Refusal) -> Self {
+        Self::Machine(e)
     }
 }
 
 impl From<AllocError> for Fault {
     ghost from_gives = { λ _ r. r ≡ Memory };
 
-    fn from(_: AllocError) -> Fault {
-        Fault::Memory
+    fn from(_: AllocError) -> Self {
+        Self::Memory
     }
 }
 
@@ -139,27 +155,27 @@ impl Fault {
         ensures { result ≡ diagnosis self.now }
     {
         let (layer, number, place) = match *self {
-            Fault::Bench(fault) => (Layer::Bench, fault.number(), 0),
-            Fault::Word(WordFault::Bad { place }) => (Layer::Word, 3, place),
-            Fault::Grammar(GrammarFault::Stuck { place }) => (Layer::Grammar, 4, place),
-            Fault::Rule(RuleFault::Leaves { place }) => (Layer::Rule, 5, place),
-            Fault::Rule(RuleFault::Taken { place }) => (Layer::Rule, 6, place),
-            Fault::Rule(RuleFault::Unknown { place }) => (Layer::Rule, 7, place),
-            Fault::Rule(RuleFault::Below { place }) => (Layer::Rule, 8, place),
-            Fault::Rule(RuleFault::Spent { place }) => (Layer::Rule, 9, place),
-            Fault::Rule(RuleFault::Outside { place }) => (Layer::Rule, 10, place),
-            Fault::Rule(RuleFault::Misfit { place }) => (Layer::Rule, 11, place),
-            Fault::Rule(RuleFault::Fixed { place }) => (Layer::Rule, 12, place),
-            Fault::Rule(RuleFault::Branches { place }) => (Layer::Rule, 13, place),
-            Fault::Rule(RuleFault::Unspent { place }) => (Layer::Rule, 14, place),
-            Fault::Need(NeedFault::Steps { place }) => (Layer::Need, 15, place),
-            Fault::Need(NeedFault::Peak { place }) => (Layer::Need, 16, place),
-            Fault::Machine(refusal) => (Layer::Machine, refusal.number(), 0),
-            Fault::Word(WordFault::Memory)
-            | Fault::Grammar(GrammarFault::Memory)
-            | Fault::Rule(RuleFault::Memory)
-            | Fault::Need(NeedFault::Memory)
-            | Fault::Memory => return None,
+            Self::Bench(fault) => (Layer::Bench, fault.number(), 0),
+            Self::Word(WordFault::Bad { place }) => (Layer::Word, 3, place),
+            Self::Grammar(GrammarFault::Stuck { place }) => (Layer::Grammar, 4, place),
+            Self::Rule(RuleFault::Leaves { place }) => (Layer::Rule, 5, place),
+            Self::Rule(RuleFault::Taken { place }) => (Layer::Rule, 6, place),
+            Self::Rule(RuleFault::Unknown { place }) => (Layer::Rule, 7, place),
+            Self::Rule(RuleFault::Below { place }) => (Layer::Rule, 8, place),
+            Self::Rule(RuleFault::Spent { place }) => (Layer::Rule, 9, place),
+            Self::Rule(RuleFault::Outside { place }) => (Layer::Rule, 10, place),
+            Self::Rule(RuleFault::Misfit { place }) => (Layer::Rule, 11, place),
+            Self::Rule(RuleFault::Fixed { place }) => (Layer::Rule, 12, place),
+            Self::Rule(RuleFault::Branches { place }) => (Layer::Rule, 13, place),
+            Self::Rule(RuleFault::Unspent { place }) => (Layer::Rule, 14, place),
+            Self::Need(NeedFault::Steps { place }) => (Layer::Need, 15, place),
+            Self::Need(NeedFault::Peak { place }) => (Layer::Need, 16, place),
+            Self::Machine(refusal) => (Layer::Machine, refusal.number(), 0),
+            Self::Word(WordFault::Memory)
+            | Self::Grammar(GrammarFault::Memory)
+            | Self::Rule(RuleFault::Memory)
+            | Self::Need(NeedFault::Memory)
+            | Self::Memory => return None,
         };
         Some(Diagnosis {
             layer,
