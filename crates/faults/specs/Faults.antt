@@ -58,14 +58,14 @@ from_need need.Memory = fault.Memory
 abbrev pub refused_by : Layer → ℕ → ℕ → Option Diagnosis
 refused_by l n p = Some (record { layer = l; number = n; place = p })
 
--- the numbers of the bench's own
-abbrev pub bench_number : BenchFault → ℕ
-bench_number Loaded = 1
-bench_number TooLong = 2
-bench_number Unloaded = 17
-bench_number Ended = 18
-bench_number Running = 19
-bench_number Short = 20
+-- the bench's own: the numbers 1, 2 and 17 to 20, with no place
+abbrev pub bench_diagnosis : BenchFault → Option Diagnosis
+bench_diagnosis Loaded = refused_by layer.Bench 1 0
+bench_diagnosis TooLong = refused_by layer.Bench 2 0
+bench_diagnosis Unloaded = refused_by layer.Bench 17 0
+bench_diagnosis Ended = refused_by layer.Bench 18 0
+bench_diagnosis Running = refused_by layer.Bench 19 0
+bench_diagnosis Short = refused_by layer.Bench 20 0
 
 abbrev pub rule_diagnosis : RuleFault → Option Diagnosis
 rule_diagnosis (rule.Leaves p) = refused_by layer.Rule 5 p
@@ -82,7 +82,7 @@ rule_diagnosis rule.Memory = None
 
 -- the layer, number and place of a refusal; none for want of memory
 abbrev pub diagnosis : Fault → Option Diagnosis
-diagnosis (fault.Bench e) = refused_by layer.Bench (bench_number e) 0
+diagnosis (fault.Bench e) = bench_diagnosis e
 diagnosis (fault.Word (word.Bad p)) = refused_by layer.Word 3 p
 diagnosis (fault.Word word.Memory) = None
 diagnosis (fault.Grammar (grammar.Stuck p)) = refused_by layer.Grammar 4 p

@@ -1,6 +1,6 @@
 // Why a call is refused: the part that found it, its number and its place.
 ghost use Rattle.std.specs.Prelude.{◌≡◌};
-ghost use Rattle.faults.specs.Faults.{from_bench, from_word, from_grammar, from_rule, from_need, layer_word, bench_number, diagnosis};
+ghost use Rattle.faults.specs.Faults.{from_bench, from_word, from_grammar, from_rule, from_need, layer_word, diagnosis};
 ghost use Rattle.faults.specs.declared.fault.Fault.TheVariants.{Memory, Machine};
 
 use grammar::parse::GrammarFault;
@@ -141,21 +141,13 @@ impl From<AllocError> for Fault {
     }
 }
 
-impl BenchFault {
-    fn number(self) -> u8
-        ensures { result ≡ bench_number self }
-    {
-        self as u8
-    }
-}
-
 impl Fault {
     // The refusal, or none for want of memory.
     pub fn diagnosis(&self) -> Option<Diagnosis>
         ensures { result ≡ diagnosis self.now }
     {
         let (layer, number, place) = match *self {
-            Self::Bench(fault) => (Layer::Bench, fault.number(), 0),
+            Self::Bench(fault) => (Layer::Bench, fault as u8, 0),
             Self::Word(WordFault::Bad { place }) => (Layer::Word, 3, place),
             Self::Grammar(GrammarFault::Stuck { place }) => (Layer::Grammar, 4, place),
             Self::Rule(RuleFault::Leaves { place }) => (Layer::Rule, 5, place),
