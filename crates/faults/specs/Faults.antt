@@ -1,5 +1,5 @@
 -- The refusals: how a layer's fault becomes the bench's, and the layer, number and place of each.
-use Rattle.std.specs.Prelude.{ℕ, Some, None, Option}
+use Rattle.std.specs.Prelude.{ℕ, List, [], ◌∷◌, Some, None, Option}
 use Rattle.machine.specs.Orders.{number}
 use Rattle.grammar.specs.declared.parse.GrammarFault.{GrammarFault}
 use Rattle.grammar.specs.declared.parse.GrammarFault.TheVariants as grammar
@@ -16,6 +16,15 @@ use Rattle.faults.specs.declared.fault.Fault.TheVariants as fault
 use Rattle.faults.specs.declared.fault.Layer.{Layer}
 use Rattle.faults.specs.declared.fault.Layer.TheVariants as layer
 use Rattle.faults.specs.declared.fault.Diagnosis.{Diagnosis}
+
+-- machine, word, grammar, rule, need, bench
+abbrev pub layer_word : Layer → List ℕ
+layer_word layer.Machine = 109 ∷ 97 ∷ 99 ∷ 104 ∷ 105 ∷ 110 ∷ 101 ∷ []
+layer_word layer.Word = 119 ∷ 111 ∷ 114 ∷ 100 ∷ []
+layer_word layer.Grammar = 103 ∷ 114 ∷ 97 ∷ 109 ∷ 109 ∷ 97 ∷ 114 ∷ []
+layer_word layer.Rule = 114 ∷ 117 ∷ 108 ∷ 101 ∷ []
+layer_word layer.Need = 110 ∷ 101 ∷ 101 ∷ 100 ∷ []
+layer_word layer.Bench = 98 ∷ 101 ∷ 110 ∷ 99 ∷ 104 ∷ []
 
 abbrev pub from_bench : BenchFault → Fault
 from_bench e = fault.Bench e

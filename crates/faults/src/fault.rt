@@ -1,6 +1,6 @@
 // Why a call is refused: the part that found it, its number and its place.
-ghost use Rattle.std.specs.Prelude.{◌≡◌, Some};
-ghost use Rattle.faults.specs.Faults.{from_bench, from_word, from_grammar, from_rule, from_need, bench_diagnosis, rule_diagnosis, diagnosis};
+ghost use Rattle.std.specs.Prelude.{◌≡◌};
+ghost use Rattle.faults.specs.Faults.{from_bench, from_word, from_grammar, from_rule, from_need, layer_word, diagnosis};
 ghost use Rattle.faults.specs.declared.fault.Fault.TheVariants.{Memory, Machine};
 
 use grammar::parse::GrammarFault;
@@ -20,21 +20,36 @@ pub enum Layer {
     Bench,
 }
 
-// The bench's own refusals.
+impl Layer {
+    pub fn word(&self) -> &'static [u8]
+        ensures { result.now ≡ layer_word self.now }
+    {
+        match self {
+            Self::Machine => b"machine",
+            Self::Word => b"word",
+            Self::Grammar => b"grammar",
+            Self::Rule => b"rule",
+            Self::Need => b"need",
+            Self::Bench => b"bench",
+        }
+    }
+}
+
+// The bench's own refusals, by their numbers.
 #[derive(Clone, Copy)]
 pub enum BenchFault {
-    // 1: the bench is not empty
-    Loaded,
-    // 2: the listing has more than 2048 bytes
-    TooLong,
-    // 17: nothing is loaded
-    Unloaded,
-    // 18: the run has ended
-    Ended,
-    // 19: the run has not ended
-    Running,
-    // 20: the buffer does not suffice
-    Short,
+    // the bench is not empty
+    Loaded = 1,
+    // the listing has more than 2048 bytes
+    TooLong = 2,
+    // nothing is loaded
+    Unloaded = 17,
+    // the run has ended
+    Ended = 18,
+    // the run has not ended
+    Running = 19,
+    // the buffer does not suffice
+    Short = 20,
 }
 
 #[derive(Clone, Copy)]
@@ -57,21 +72,22 @@ pub struct Diagnosis {
     pub place: usize,
 }
 
+// By hand: each layer's want of memory is the bench's own, a derived From has no contract, and a macro of this repository may not write an impl.
 impl From<BenchFault> for Fault {
     ghost from_gives = { λ e r. r ≡ from_bench e };
 
-    fn from(e: BenchFault) -> Fault {
-        Fault::Bench(e)
+    fn from(e: BenchFault) -> Self {
+        Self::Bench(e)
     }
 }
 
 impl From<WordFault> for Fault {
     ghost from_gives = { λ e r. r ≡ from_word e };
 
-    fn from(e: WordFault) -> Fault {
+    fn from(e: WordFault) -> Self {
         match e {
-            WordFault::Memory => Fault::Memory,
-            _ => Fault::Word(e),
+            WordFault::Memory => Self::Memory,
+            _ => Self::Word(e),
         }
     }
 }
@@ -79,10 +95,10 @@ impl From<WordFault> for Fault {
 impl From<GrammarFault> for Fault {
     ghost from_gives = { λ e r. r ≡ from_grammar e };
 
-    fn from(e: GrammarFault) -> Fault {
+    fn from(e: GrammarFault) -> Self {
         match e {
-            GrammarFault::Memory => Fault::Memory,
-            _ => Fault::Grammar(e),
+            GrammarFault::Memory => Self::Memory,
+            _ => Self::Grammar(e),
         }
     }
 }
@@ -90,10 +106,10 @@ impl From<GrammarFault> for Fault {
 impl From<RuleFault> for Fault {
     ghost from_gives = { λ e r. r ≡ from_rule e };
 
-    fn from(e: RuleFault) -> Fault {
+    fn from(e: RuleFault) -> Self {
         match e {
-            RuleFault::Memory => Fault::Memory,
-            _ => Fault::Rule(e),
+            RuleFault::Memory => Self::Memory,
+            _ => Self::Rule(e),
         }
     }
 }
@@ -101,10 +117,10 @@ impl From<RuleFault> for Fault {
 impl From<NeedFault> for Fault {
     ghost from_gives = { λ e r. r ≡ from_need e };
 
-    fn from(e: NeedFault) -> Fault {
+    fn from(e: NeedFault) -> Self {
         match e {
-            NeedFault::Memory => Fault::Memory,
-            _ => Fault::Need(e),
+            NeedFault::Memory => Self::Memory,
+            _ => Self::Need(e),
         }
     }
 }
@@ -112,57 +128,16 @@ impl From<NeedFault> for Fault {
 impl From<Refusal> for Fault {
     ghost from_gives = { λ e r. r ≡ Machine e };
 
-    fn from(e: Refusal) -> Fault {
-        Fault::Machine(e)
+    fn from(e: Refusal) -> Self {
+        Self::Machine(e)
     }
 }
 
 impl From<AllocError> for Fault {
     ghost from_gives = { λ _ r. r ≡ Memory };
 
-    fn from(_e: AllocError) -> Fault {
-        Fault::Memory
-    }
-}
-
-fn at(layer: Layer, number: u8, place: usize) -> Option<Diagnosis>
-    ensures { result ≡ Some (record { layer = layer; number = number; place = place }) }
-{
-    Some(Diagnosis {
-        layer,
-        number,
-        place,
-    })
-}
-
-fn bench_diagnosis(fault: BenchFault) -> Option<Diagnosis>
-    ensures { result ≡ bench_diagnosis fault }
-{
-    match fault {
-        BenchFault::Loaded => at(Layer::Bench, 1, 0),
-        BenchFault::TooLong => at(Layer::Bench, 2, 0),
-        BenchFault::Unloaded => at(Layer::Bench, 17, 0),
-        BenchFault::Ended => at(Layer::Bench, 18, 0),
-        BenchFault::Running => at(Layer::Bench, 19, 0),
-        BenchFault::Short => at(Layer::Bench, 20, 0),
-    }
-}
-
-fn rule_diagnosis(fault: RuleFault) -> Option<Diagnosis>
-    ensures { result ≡ rule_diagnosis fault }
-{
-    match fault {
-        RuleFault::Leaves { place } => at(Layer::Rule, 5, place),
-        RuleFault::Taken { place } => at(Layer::Rule, 6, place),
-        RuleFault::Unknown { place } => at(Layer::Rule, 7, place),
-        RuleFault::Below { place } => at(Layer::Rule, 8, place),
-        RuleFault::Spent { place } => at(Layer::Rule, 9, place),
-        RuleFault::Outside { place } => at(Layer::Rule, 10, place),
-        RuleFault::Misfit { place } => at(Layer::Rule, 11, place),
-        RuleFault::Fixed { place } => at(Layer::Rule, 12, place),
-        RuleFault::Branches { place } => at(Layer::Rule, 13, place),
-        RuleFault::Unspent { place } => at(Layer::Rule, 14, place),
-        RuleFault::Memory => None,
+    fn from(_: AllocError) -> Self {
+        Self::Memory
     }
 }
 
@@ -171,24 +146,33 @@ impl Fault {
     pub fn diagnosis(&self) -> Option<Diagnosis>
         ensures { result ≡ diagnosis self.now }
     {
-        match *self {
-            Fault::Bench(fault) => bench_diagnosis(fault),
-            Fault::Word(fault) => match fault {
-                WordFault::Bad { place } => at(Layer::Word, 3, place),
-                WordFault::Memory => None,
-            },
-            Fault::Grammar(fault) => match fault {
-                GrammarFault::Stuck { place } => at(Layer::Grammar, 4, place),
-                GrammarFault::Memory => None,
-            },
-            Fault::Rule(fault) => rule_diagnosis(fault),
-            Fault::Need(fault) => match fault {
-                NeedFault::Steps { place } => at(Layer::Need, 15, place),
-                NeedFault::Peak { place } => at(Layer::Need, 16, place),
-                NeedFault::Memory => None,
-            },
-            Fault::Machine(refusal) => at(Layer::Machine, refusal.number(), 0),
-            Fault::Memory => None,
-        }
+        let (layer, number, place) = match *self {
+            Self::Bench(fault) => (Layer::Bench, fault as u8, 0),
+            Self::Word(WordFault::Bad { place }) => (Layer::Word, 3, place),
+            Self::Grammar(GrammarFault::Stuck { place }) => (Layer::Grammar, 4, place),
+            Self::Rule(RuleFault::Leaves { place }) => (Layer::Rule, 5, place),
+            Self::Rule(RuleFault::Taken { place }) => (Layer::Rule, 6, place),
+            Self::Rule(RuleFault::Unknown { place }) => (Layer::Rule, 7, place),
+            Self::Rule(RuleFault::Below { place }) => (Layer::Rule, 8, place),
+            Self::Rule(RuleFault::Spent { place }) => (Layer::Rule, 9, place),
+            Self::Rule(RuleFault::Outside { place }) => (Layer::Rule, 10, place),
+            Self::Rule(RuleFault::Misfit { place }) => (Layer::Rule, 11, place),
+            Self::Rule(RuleFault::Fixed { place }) => (Layer::Rule, 12, place),
+            Self::Rule(RuleFault::Branches { place }) => (Layer::Rule, 13, place),
+            Self::Rule(RuleFault::Unspent { place }) => (Layer::Rule, 14, place),
+            Self::Need(NeedFault::Steps { place }) => (Layer::Need, 15, place),
+            Self::Need(NeedFault::Peak { place }) => (Layer::Need, 16, place),
+            Self::Machine(refusal) => (Layer::Machine, refusal.number(), 0),
+            Self::Word(WordFault::Memory)
+            | Self::Grammar(GrammarFault::Memory)
+            | Self::Rule(RuleFault::Memory)
+            | Self::Need(NeedFault::Memory)
+            | Self::Memory => return None,
+        };
+        Some(Diagnosis {
+            layer,
+            number,
+            place,
+        })
     }
 }

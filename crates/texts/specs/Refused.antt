@@ -1,17 +1,7 @@
 -- The line of a refusal, byte by byte.
 use Rattle.std.specs.Prelude.{ℕ, List, [], ◌∷◌, ◌++◌, decimal}
 use Rattle.faults.specs.declared.fault.Diagnosis.{Diagnosis}
-use Rattle.faults.specs.declared.fault.Layer.{Layer}
-use Rattle.faults.specs.declared.fault.Layer.TheVariants.{Machine, Word, Grammar, Rule, Need, Bench}
-
--- machine, word, grammar, rule, need, bench
-abbrev pub layer_word : Layer → List ℕ
-layer_word Machine = 109 ∷ 97 ∷ 99 ∷ 104 ∷ 105 ∷ 110 ∷ 101 ∷ []
-layer_word Word = 119 ∷ 111 ∷ 114 ∷ 100 ∷ []
-layer_word Grammar = 103 ∷ 114 ∷ 97 ∷ 109 ∷ 109 ∷ 97 ∷ 114 ∷ []
-layer_word Rule = 114 ∷ 117 ∷ 108 ∷ 101 ∷ []
-layer_word Need = 110 ∷ 101 ∷ 101 ∷ 100 ∷ []
-layer_word Bench = 98 ∷ 101 ∷ 110 ∷ 99 ∷ 104 ∷ []
+use Rattle.faults.specs.Faults.{layer_word}
 
 abbrev pub blank : List ℕ
 blank = 32 ∷ []

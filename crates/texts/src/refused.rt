@@ -1,35 +1,24 @@
 // The line of a refusal.
 ghost use Rattle.std.specs.Prelude.{◌≡◌};
-ghost use Rattle.texts.specs.Refused.{layer_word, refused_text};
+ghost use Rattle.texts.specs.Refused.{refused_text};
 ghost use Rattle.texts.specs.Texts.{written};
 
 use crate::text::Text;
-use faults::fault::{Diagnosis, Layer};
-
-fn layer_word(layer: Layer) -> &'static [u8]
-    ensures { result.now ≡ layer_word layer }
-{
-    match layer {
-        Layer::Machine => b"machine",
-        Layer::Word => b"word",
-        Layer::Grammar => b"grammar",
-        Layer::Rule => b"rule",
-        Layer::Need => b"need",
-        Layer::Bench => b"bench",
-    }
-}
+use faults::fault::Diagnosis;
 
 // The word refused, the layer, the number and the place, parted by blanks, and a line feed.
+// By hand: `write!` says what it wrote only where it answers Ok, and a writer that never fails cannot say so.
 pub fn refused_line(diagnosis: Diagnosis) -> Text
     ensures { written result ≡ refused_text diagnosis }
 {
     let mut text = Text::new();
     text.push_all(b"refused ");
-    text.push_all(layer_word(diagnosis.layer));
+    text.push_all(diagnosis.layer.word());
     text.push(b' ');
     text.push_decimal(u64::from(diagnosis.number));
     text.push(b' ');
+    // No From of std takes a usize to a u64.
     text.push_decimal(diagnosis.place as u64);
-    text.push(10);
+    text.push(b'\n');
     text
 }
