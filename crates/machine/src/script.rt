@@ -39,12 +39,11 @@ impl<'a> Script<'a> {
         ensures place { self.new.next ≡ next_place self.old.bits.now self.old.next }
         ensures board { self.new.board ≡ self.old.board }
     {
-        if self.next >= self.bits.len() {
+        let Some(byte) = self.bits.get(self.next) else {
             return false;
-        }
-        let bit = self.bits[self.next] != 0;
+        };
         self.next += 1;
-        bit
+        *byte != 0
     }
 }
 
@@ -61,12 +60,7 @@ impl Machine for Script<'_> {
         ensures bits { self.new.bits ≡ self.old.bits }
         ensures place { self.new.next ≡ self.old.next }
     {
-        if self.board.is_full() {
-            return Err(Refusal::Full);
-        }
-        let handle = self.board.free_from(0);
-        self.board.prepare(handle);
-        Ok(handle)
+        self.board.prepare(0)
     }
 
     fn measure(&mut self, handle: u8) -> Result<bool, Refusal>
@@ -98,8 +92,6 @@ impl Machine for Script<'_> {
         ensures bits { self.new.bits ≡ self.old.bits }
         ensures place { self.new.next ≡ self.old.next }
     {
-        let handles = self.board.admit(gate, handles)?;
-        self.board.apply(gate, handles);
-        Ok(())
+        self.board.gate(gate, handles)
     }
 }
