@@ -54,6 +54,7 @@ impl Machine for Script<'_> {
         self.board.capacity()
     }
 
+    #[tactic(auto, using(crate::proofs::Kept::script_kept))]
     fn prepare(&mut self) -> Result<u8, Refusal>
         ensures answer { PrepareAnswer (seen self.old.board) (seen self.new.board) result }
         ensures same { IfRefused result (self.new ≡ self.old) }
@@ -86,6 +87,7 @@ impl Machine for Script<'_> {
         self.board.clear();
     }
 
+    #[tactic(auto, using(crate::proofs::Kept::script_kept))]
     fn gate(&mut self, gate: Gate, handles: &[u8]) -> Result<(), Refusal>
         ensures answer { GateAnswer gate handles.now (seen self.old.board) (seen self.new.board) result }
         ensures same { IfRefused result (self.new ≡ self.old) }
