@@ -1,11 +1,21 @@
 -- The laws of `lex` that a reader uses.
-use Rattle.std.proofs.Common.{◌≡◌, ℕ, zero, suc, ◌+◌, ◌<◌, ◌≤◌, Bool, true, false, cond, List, [], ◌∷◌, ◌++◌, length, get_or, take, drop, Some, None, sym, refl, ap, ◌∙◌, subst, ⊎_elim, add-zero, arith}
+use Rattle.std.proofs.Common.{◌≡◌, ℕ, zero, suc, ◌+◌, ◌-◌, ◌<◌, ◌≤◌, Bool, true, false, cond, List, [], ◌∷◌, ◌++◌, length, get_or, take, drop, Some, None, sym, refl, ap, ◌∙◌, subst, ⊎_elim, add-zero, arith}
 use Rattle.std.specs.List.{prefix_len, AllByRecursion}
-use Rattle.std.proofs.lemmas.List.{drop_more, drop-drop, drop_all}
+use Rattle.std.proofs.lemmas.List.{drop_more, drop-drop, drop_all, take_all, length-drop}
+use Rattle.std.proofs.lemmas.List.Sums.{prefix_len_is}
 use Rattle.std.proofs.lemmas.Bool.{cases_Bool}
 use Rattle.words.specs.Bytes.{blank, inner}
 use Rattle.words.specs.declared.token.Word.{Word}
 use Rattle.words.specs.Words.{Item, Lexed, items, bad_at, before, begin, sort_of, seen, extent, span, lex, words_from, Means}
+
+-- the rest of a listing, as the code cuts it
+pub rest_is : (s : List ℕ) (at : ℕ) → take (length s - at) (drop at s) ≡ drop at s
+rest_is s at = take_all (length s - at) (drop at s) (omega (arith, length-drop at s))
+
+-- n bytes of it come first that pass
+pub front_is : (p : ℕ → Bool) (s : List ℕ) (at n : ℕ) → n ≤ length (take (length s - at) (drop at s)) → ((k : ℕ) → k < n → true ≡ p (get_or (take (length s - at) (drop at s)) k 0)) → (n < length (take (length s - at) (drop at s)) → false ≡ p (get_or (take (length s - at) (drop at s)) n 0)) → n ≡ prefix_len p (drop at s)
+front_is p s at n within passed stopped =
+    sym (prefix_len_is p (take (length s - at) (drop at s)) n 0 within (λ k l. sym (passed k l)) (λ l. sym (stopped l))) ∙ ap (prefix_len p) (rest_is s at)
 
 -- the bytes of a word that was given already are passed
 pub lex_pass : (at k : ℕ) (bs : List ℕ) → lex at k bs ≡ lex (at + k) 0 (drop k bs)
