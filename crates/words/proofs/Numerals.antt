@@ -1,10 +1,13 @@
 -- The value of digits, read from the front.
-use Rattle.std.proofs.Common.{◌≡◌, ℕ, ◌+◌, ◌-◌, ◌*◌, ◌<◌, ◌≤◌, Bool, true, false, cond, ◌&&◌, leb, List, [], ◌∷◌, length, get_or, drop, Some, None, Option, sym, refl, ap, ◌∙◌, arith, le-leb}
+use Rattle.std.proofs.Common.{◌≡◌, ℕ, ◌+◌, ◌*◌, ◌<◌, ◌≤◌, Bool, true, false, cond, ◌&&◌, leb, List, [], ◌∷◌, length, get_or, drop, Some, None, Option, sym, refl, ap, ◌∙◌, ⊎_elim, arith, le-leb}
 use borrow.Author.Tests.{lt-leb}
 use Rattle.std.specs.Char.{is_ascii_digit, digit_value}
 use Rattle.std.specs.Str.Parse.{digits_value_after, digits_value}
 use Rattle.std.specs.Str.{all_ascii_digits}
-use Rattle.std.proofs.lemmas.Bool.{le-ltb, lt-ltb}
+use Rattle.std.proofs.Math.Bool.{and-false}
+use Rattle.std.proofs.lemmas.Bool.{cases_Bool, leb-true, leb-false}
+use Rattle.std.proofs.lemmas.Option.{none-some, same_Some}
+use Rattle.words.specs.Bytes.{digit}
 use Rattle.std.proofs.lemmas.List.{at_drop_more, at_drop_all}
 use Rattle.words.specs.Words.{no_leading_zero, good_number, largest}
 
@@ -12,16 +15,9 @@ use Rattle.words.specs.Words.{no_leading_zero, good_number, largest}
 abbrev pub worth : ℕ → List ℕ → Option ℕ
 worth v w = cond (all_ascii_digits w && leb (digits_value_after 10 v w) largest) (Some (digits_value_after 10 v w)) None
 
-and_false : (b : Bool) → (b && false) ≡ false
-and_false true = refl
-and_false false = refl
-
 value_ge : (v : ℕ) (w : List ℕ) → v ≤ digits_value_after 10 v w
 value_ge v [] = omega arith
 value_ge v (d ∷ w) = let h = value_ge (v * 10 + digit_value d) w in omega arith
-
-digit_worth : (d : ℕ) → 48 ≤ d → d ≤ 57 → digit_value d ≡ d - 48
-digit_worth d lo hi = simp (le-ltb d 48 lo, lt-ltb d 58 (omega arith))
 
 worth_none : (v : ℕ) → v ≤ largest → worth v [] ≡ Some v
 worth_none v h = simp (le-leb v largest h)
@@ -34,25 +30,51 @@ worth_over v d w h =
     let g = value_ge (v * 10 + digit_value d) w in
     let over : leb (digits_value_after 10 (v * 10 + digit_value d) w) largest ≡ false = lt-leb _ _ (omega arith) in
     ap (λ t. cond (all_ascii_digits (d ∷ w) && t) (Some (digits_value_after 10 v (d ∷ w))) None) over
-    ∙ ap (λ t. cond t (Some (digits_value_after 10 v (d ∷ w))) None) (and_false (all_ascii_digits (d ∷ w)))
+    ∙ ap (λ t. cond t (Some (digits_value_after 10 v (d ∷ w))) None) (and-false (all_ascii_digits (d ∷ w)))
 
 worth_more : (v d : ℕ) (w : List ℕ) → is_ascii_digit d ≡ true → worth v (d ∷ w) ≡ worth (v * 10 + digit_value d) w
 worth_more v d w e = simp e
 
+-- the value with one digit more at its end
+abbrev pub extended : ℕ → ℕ → Option ℕ
+extended v d = cond (digit d && leb (v * 10 + digit_value d) largest) (Some (v * 10 + digit_value d)) None
+
+extends : (v d : ℕ) (a b : Bool) → digit d ≡ a → leb (v * 10 + digit_value d) largest ≡ b → extended v d ≡ cond (a && b) (Some (v * 10 + digit_value d)) None
+extends v d a b e f = λ i. cond (e i && f i) (Some (v * 10 + digit_value d)) None
+
+worth_less : (v d : ℕ) (w : List ℕ) → None ≡ extended v d → worth v (d ∷ w) ≡ None
+worth_less v d w h =
+    ⊎_elim
+    (λ (e : digit d ≡ true).
+    ⊎_elim (λ (f : leb (v * 10 + digit_value d) largest ≡ true). absurd (none-some (v * 10 + digit_value d) (h ∙ extends v d true true e f)))
+    (λ (f : leb (v * 10 + digit_value d) largest ≡ false). worth_over v d w (leb-false _ _ f))
+    (cases_Bool (leb (v * 10 + digit_value d) largest)))
+    (λ (e : digit d ≡ false). worth_odd v d w e)
+    (cases_Bool (digit d))
+
+worth_next : (v d x : ℕ) (w : List ℕ) → Some x ≡ extended v d → (worth v (d ∷ w) ≡ worth x w) × (x ≤ largest)
+worth_next v d x w h =
+    ⊎_elim
+    (λ (e : digit d ≡ true).
+    ⊎_elim
+    (λ (f : leb (v * 10 + digit_value d) largest ≡ true).
+    let is : x ≡ v * 10 + digit_value d = same_Some x (v * 10 + digit_value d) (h ∙ extends v d true true e f) in
+    let le = leb-true _ _ f in
+    (worth_more v d w e ∙ ap (λ n. worth n w) (sym is), omega arith))
+    (λ (f : leb (v * 10 + digit_value d) largest ≡ false). absurd (none-some x (sym (h ∙ extends v d true false e f))))
+    (cases_Bool (leb (v * 10 + digit_value d) largest)))
+    (λ (e : digit d ≡ false). absurd (none-some x (sym (h ∙ extends v d false (leb (v * 10 + digit_value d) largest) e refl))))
+    (cases_Bool (digit d))
+
 -- one turn of a loop at the place i
-module _ (v : ℕ) (w : List ℕ) (i d : ℕ) (lt : i < length w) (is : d ≡ get_or w i 0) where
-  here : worth v (drop i w) ≡ worth v (d ∷ drop (i + 1) w)
-  here = at_drop_more (worth v) w i 0 lt ∙ ap (λ x. worth v (x ∷ drop (i + 1) w)) (sym is)
+module _ (v : ℕ) (w : List ℕ) (i : ℕ) (lt : i < length w) where
+  pub less : None ≡ extended v (get_or w i 0) → worth v (drop i w) ≡ None
+  less h = at_drop_more (worth v) w i 0 lt ∙ worth_less v (get_or w i 0) (drop (i + 1) w) h
 
-  pub odd : is_ascii_digit d ≡ false → worth v (drop i w) ≡ None
-  odd e = here ∙ worth_odd v d (drop (i + 1) w) e
-
-  module _ (lo : 48 ≤ d) (hi : d ≤ 57) where
-    pub over : largest < v * 10 + (d - 48) → worth v (drop i w) ≡ None
-    over h = let q = digit_worth d lo hi in here ∙ worth_over v d (drop (i + 1) w) (omega arith)
-
-    pub more : is_ascii_digit d ≡ true → worth v (drop i w) ≡ worth (v * 10 + (d - 48)) (drop (i + 1) w)
-    more e = here ∙ worth_more v d (drop (i + 1) w) e ∙ ap (λ x. worth (v * 10 + x) (drop (i + 1) w)) (digit_worth d lo hi)
+  pub more : (x : ℕ) → Some x ≡ extended v (get_or w i 0) → (worth v (drop i w) ≡ worth x (drop (i + 1) w)) × (x ≤ largest)
+  more x h =
+      let n = worth_next v (get_or w i 0) x (drop (i + 1) w) h in
+      (at_drop_more (worth v) w i 0 lt ∙ n.0, n.1)
 
 pub all : (v : ℕ) (w : List ℕ) (i : ℕ) → length w ≤ i → v ≤ largest → worth v (drop i w) ≡ Some v
 all v w i h small = at_drop_all (worth v) w i h ∙ worth_none v small

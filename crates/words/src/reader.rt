@@ -16,7 +16,7 @@ pub struct Reader<'a> {
 fn is_blank(b: u8) -> bool
     ensures { result ≡ blank b }
 {
-    b == b' ' || b == b'\n'
+    matches!(b, b' ' | b'\n')
 }
 
 fn is_inner(b: u8) -> bool
@@ -52,17 +52,5 @@ impl<'a> Reader<'a> {
         ensures place { self.new.place ≡ self.old.place + prefix_len blank (drop self.old.place self.old.listing.now) }
     {
         self.place += front_len(&self.listing[self.place..], is_blank);
-    }
-
-    // The longest run of letters and digits that comes next.
-    fn run(&mut self) -> &'a [u8]
-        ensures listing { self.new.listing.now ≡ self.old.listing.now }
-        ensures place { self.new.place ≡ self.old.place + prefix_len inner (drop self.old.place self.old.listing.now) }
-        ensures text { result.now ≡ take (prefix_len inner (drop self.old.place self.old.listing.now)) (drop self.old.place self.old.listing.now) }
-    {
-        let rest = &self.listing[self.place..];
-        let count = front_len(rest, is_inner);
-        self.place += count;
-        &rest[..count]
     }
 }

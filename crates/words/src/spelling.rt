@@ -47,12 +47,7 @@ const GATES: [(&'static [u8], Gate); 8] = [
 fn find<T: Copy>(table: &[(&'static [u8], T)], text: &[u8]) -> Option<T>
     ensures { result ≡ lookup text.now (map (λ row. (row.0.now, row.1)) table.now) }
 {
-    for row in table {
-        if row.0 == text {
-            return Some(row.1);
-        }
-    }
-    None
+    table.iter().find(|row| row.0 == text).map(|row| row.1)
 }
 
 pub(crate) fn kind(text: &[u8]) -> Option<Kind>

@@ -1,24 +1,17 @@
-use Rattle.std.proofs.Common.{sym, refl, ◌∙◌, arith}
-use Rattle.words.proofs.Numerals.{odd, over, more, all, good}
+use Rattle.std.proofs.Common.{sym, ◌∙◌, arith}
+use Rattle.words.proofs.Numerals.{less, more, all, good}
 use Rattle.words.proofs.meaning.number.Goals as goal
-
-pub returns-then-not-is_digit : goal.returns-then-not-is_digit
-returns-then-not-is_digit c =
-    sym (odd c.loop-byte.value c.args.text.now c.loop-byte.byte-index _ c.loop-byte-test.true refl (sym c.if-not-is_digit.ensures.value))
-    ∙ c.loop-byte.invariant.0 ∙ good c.args.text.now (sym c.if-not-has_no_leading_zero.ensures)
-
-pub returns-then-value-digit : goal.returns-then-value-digit
-returns-then-value-digit c =
-    let d = c.if-not-is_digit.ensures.cases in
-    sym (over c.loop-byte.value c.args.text.now c.loop-byte.byte-index _ c.loop-byte-test.true refl d.0 d.1 (omega (arith, d.0, d.1)))
-    ∙ c.loop-byte.invariant.0 ∙ good c.args.text.now (sym c.if-not-has_no_leading_zero.ensures)
 
 pub loop-byte-preserved : goal.loop-byte-preserved
 loop-byte-preserved c =
-    let d = c.if-not-is_digit.ensures.cases in (
-      sym (more c.loop-byte.value c.args.text.now c.loop-byte.byte-index _ c.loop-byte-test.true refl d.0 d.1 (sym c.if-not-is_digit.ensures.value)) ∙ c.loop-byte.invariant.0,
-      omega (arith, d.0, d.1),
-    )
+    let n = more c.loop-byte.value c.args.text.now c.loop-byte.byte-index c.loop-byte-test.true c.in_ok-value.value c.in_ok-value.ensures in
+    (sym n.0 ∙ c.loop-byte.invariant.0, n.1)
+
+pub returns-in_err-value : goal.returns-in_err-value
+returns-in_err-value c =
+    c.from_residual.ensures
+    ∙ sym (less c.loop-byte.value c.args.text.now c.loop-byte.byte-index c.loop-byte-test.true c.in_err-value.ensures)
+    ∙ c.loop-byte.invariant.0 ∙ good c.args.text.now (sym c.if-not-has_no_leading_zero.ensures)
 
 pub returns : goal.returns
 returns c =
