@@ -50,12 +50,14 @@ fn find<T: Copy>(table: &[(&'static [u8], T)], text: &[u8]) -> Option<T>
     table.iter().find(|row| row.0 == text).map(|row| row.1)
 }
 
+#[tactic(auto, unfolding(crate::specs::Spellings::kinds))]
 pub(crate) fn kind(text: &[u8]) -> Option<Kind>
     ensures { result ≡ lookup text.now kinds }
 {
     find(&KINDS, text)
 }
 
+#[tactic(auto, unfolding(crate::specs::Spellings::gates))]
 pub(crate) fn gate(text: &[u8]) -> Option<Gate>
     ensures { result ≡ lookup text.now gates }
 {
