@@ -82,6 +82,3 @@ all v w i h small = at_drop_all (worth v) w i h ∙ worth_none v small
 -- a good number is worth its value
 pub good : (w : List ℕ) → no_leading_zero w ≡ true → worth 0 w ≡ cond (good_number w) (Some (digits_value 10 w)) None
 good w e = simp e
-
-pub zero_first : (w : List ℕ) → no_leading_zero w ≡ false → None ≡ cond (good_number w) (Some (digits_value 10 w)) None
-zero_first w e = simp e

@@ -15,15 +15,8 @@ SoFar s at old cur = (ws : List Word) × (cur ≡ old ++ ws) × (after (map seen
 pub at_first : (s : List ℕ) (at : ℕ) (old : List Word) → at ≡ 0 → SoFar s at old old
 at_first s at old e = ([], sym (append-nil old), ap (words_from s) e, omega arith, (sym e, ap (λ n. drop n s) (sym e)))
 
--- whether an answer is of want of memory
-Wants : Result (Unit {0}) WordFault → Type 0
-Wants (Ok _) = ⊥
-Wants (Err (Bad p)) = ⊥
-Wants (Err Memory) = Unit {0}
-
 pub answered : (r : Result (Unit {0}) WordFault) → r ≡ Ok tt → r ≡ Err Memory → ⊥
-unfolding Wants
-answered r is m = subst Wants (sym m ∙ is) tt
+answered r is m = cc
 
 module _ (s t : List ℕ) (same : t ≡ s) (at at' : ℕ) (old cur : List Word) (so : SoFar s at old cur) where
   pub again : (o : Option Word) (w : Word) (new : List Word) → o ≡ Some w → Next t at at' (Ok o) → new ≡ cur ++ w ∷ [] → SoFar s at' old new
@@ -58,8 +51,7 @@ module _ (s t : List ℕ) (same : t ≡ s) (at at' : ℕ) (old cur : List Word) 
 
   -- a reader never wants memory
   pub fits : (e : WordFault) → Next t at at' (Err e) → (r : Result (Unit {0}) WordFault) → r ≡ Err e → r ≡ Err Memory → ⊥
-  unfolding Wants
-  fits (Bad p) h r is m = subst Wants (sym m ∙ is) tt
+  fits (Bad p) h r is m = cc
   fits Memory h r is m = h
 
   -- there was no room for one word more
