@@ -89,12 +89,10 @@ impl Machine for Coin {
         ensures bit { IfAccepted result (λ b. b ≡ bit_of (next_number self.old.s)) }
         ensures last { self.new.last ≡ self.old.last }
     {
-        if !self.board.is_live(handle) {
-            return Err(Refusal::Dead);
-        }
-        self.s = next_number(self.s);
-        let bit = self.s >= HALF;
-        self.board.measure(handle, bit);
+        let s = next_number(self.s);
+        let bit = s >= HALF;
+        self.board.measure(handle, bit)?;
+        self.s = s;
         Ok(bit)
     }
 

@@ -32,18 +32,11 @@ impl<'a> Script<'a> {
         }
     }
 
-    // The bit at the place, which moves on.
-    fn bit(&mut self) -> bool
-        ensures bit { result ≡ bit_at self.old.bits.now self.old.next }
-        ensures bits { self.new.bits ≡ self.old.bits }
-        ensures place { self.new.next ≡ next_place self.old.bits.now self.old.next }
-        ensures board { self.new.board ≡ self.old.board }
+    // The bit at the place.
+    fn bit(&self) -> bool
+        ensures { result ≡ bit_at self.now.bits.now self.now.next }
     {
-        let Some(byte) = self.bits.get(self.next) else {
-            return false;
-        };
-        self.next += 1;
-        *byte != 0
+        self.bits.get(self.next).is_some_and(|byte| *byte != 0)
     }
 }
 
@@ -64,6 +57,7 @@ impl Machine for Script<'_> {
         self.board.prepare(0)
     }
 
+    #[tactic(auto, using(crate::proofs::Kept::script_kept))]
     fn measure(&mut self, handle: u8) -> Result<bool, Refusal>
         ensures answer { MeasureAnswer handle (seen self.old.board) (seen self.new.board) result }
         ensures same { IfRefused result (self.new ≡ self.old) }
@@ -71,11 +65,9 @@ impl Machine for Script<'_> {
         ensures bits { self.new.bits ≡ self.old.bits }
         ensures place { IfAccepted result (λ _. self.new.next ≡ next_place self.old.bits.now self.old.next) }
     {
-        if !self.board.is_live(handle) {
-            return Err(Refusal::Dead);
-        }
         let bit = self.bit();
-        self.board.measure(handle, bit);
+        self.board.measure(handle, bit)?;
+        self.next = (self.next + 1).min(self.bits.len());
         Ok(bit)
     }
 

@@ -1,11 +1,11 @@
 // Questions to a board, and what an order does to it.
-ghost use Rattle.std.specs.Prelude.{◌≡◌, ◌<◌, true, None, nat_le};
+ghost use Rattle.std.specs.Prelude.{◌≡◌, ◌<◌, None, nat_le, MatchResult};
 ghost use Rattle.machine.specs.Boards.{seen};
 ghost use Rattle.machine.specs.Coins.{FirstFree, FreeFrom};
 ghost use Rattle.machine.specs.Gates.{Admits, GateAnswer, gate_question};
 ghost use Rattle.machine.specs.Model.{tally, every, Accepted, Started, Does, Clears, ordered};
 ghost use Rattle.machine.specs.Orders.{handle_list};
-ghost use Rattle.machine.specs.Promises.{PrepareAnswer, IfRefused, IfAccepted};
+ghost use Rattle.machine.specs.Promises.{PrepareAnswer, NotLive, IfRefused, IfAccepted};
 ghost use Rattle.machine.specs.declared.order.Order.TheVariants.{Applied, Measured};
 
 use super::Board;
@@ -37,7 +37,7 @@ impl Board {
         self.used >= self.capacity
     }
 
-    pub(crate) fn is_live(&self, handle: u8) -> bool
+    fn is_live(&self, handle: u8) -> bool
         ensures { result ≡ (seen self.now).live handle }
     {
         self.live.get(usize::from(handle)).copied().unwrap_or(false)
@@ -79,13 +79,18 @@ impl Board {
         Ok(handle)
     }
 
-    pub(crate) fn measure(&mut self, handle: u8, bit: bool)
-        requires { (seen self.old).live handle ≡ true }
-        ensures { Does (seen self.old) (ordered (Measured handle bit)) (seen self.new) }
+    // Measures the handle, which is live no more, with the answer `bit`.
+    pub(crate) fn measure(&mut self, handle: u8, bit: bool) -> Result<(), Refusal>
+        ensures answer { MatchResult result (λ _. Does (seen self.old) (ordered (Measured handle bit)) (seen self.new)) (λ e. NotLive (seen self.old) handle e) }
+        ensures same { IfRefused result (self.new ≡ self.old) }
     {
+        if !self.is_live(handle) {
+            return Err(Refusal::Dead);
+        }
         self.live[usize::from(handle)] = false;
         self.used -= 1;
         self.accept(Order::Measured { handle, bit });
+        Ok(())
     }
 
     fn all_live(&self, handles: &[u8]) -> bool
