@@ -18,9 +18,9 @@ pub struct Coin {
     board: Board,
 }
 
-const MULTIPLIER: u32 = 25173;
+const MULTIPLIER: u16 = 25173;
 
-const INCREMENT: u32 = 13849;
+const INCREMENT: u16 = 13849;
 // A number from here on gives the bit one.
 const HALF: u16 = 32768;
 
@@ -28,7 +28,7 @@ const HALF: u16 = 32768;
 fn next_number(s: u16) -> u16
     ensures { result ≡ next_number s }
 {
-    ((MULTIPLIER * u32::from(s) + INCREMENT) % 65536) as u16
+    s.wrapping_mul(MULTIPLIER).wrapping_add(INCREMENT)
 }
 
 // The handle after the last one given: 0 after the greatest, and 0 where none was given.
