@@ -53,11 +53,8 @@ fn number(text: &[u8]) -> Option<u32>
     if !has_no_leading_zero(text) {
         return None;
     }
-    let mut value = 0;
-    for byte in text {
-        value = with_digit(value, *byte)?;
-    }
-    Some(value)
+    text.iter()
+        .try_fold(0, |value, byte| with_digit(value, *byte))
 }
 
 fn is_name(text: &[u8]) -> bool

@@ -1,19 +1,12 @@
-use Rattle.std.proofs.Common.{sym, ◌∙◌, arith}
-use Rattle.words.proofs.Numerals.{less, more, all, good}
+use Rattle.std.proofs.Common.{◌≡◌, sym, ◌∙◌, rules}
+use Rattle.std.proofs.lemmas.Iterator.{YieldsList-from_slice}
+use Rattle.words.proofs.Numerals.{extended, number_is, good}
 use Rattle.words.proofs.meaning.number.Goals as goal
-
-pub loop-byte-preserved : goal.loop-byte-preserved
-loop-byte-preserved c =
-    let n = more c.loop-byte.value c.args.text.now c.loop-byte.byte-index c.loop-byte-test.true c.in_ok-value.value c.in_ok-value.ensures in
-    (sym n.0 ∙ c.loop-byte.invariant.0, n.1)
-
-pub returns-in_err-value : goal.returns-in_err-value
-returns-in_err-value c =
-    c.from_residual.ensures
-    ∙ sym (less c.loop-byte.value c.args.text.now c.loop-byte.byte-index c.loop-byte-test.true c.in_err-value.ensures)
-    ∙ c.loop-byte.invariant.0 ∙ good c.args.text.now (sym c.if-not-has_no_leading_zero.ensures)
 
 pub returns : goal.returns
 returns c =
-    sym (all c.loop-byte.value c.args.text.now c.loop-byte.byte-index (omega arith) c.loop-byte.invariant.1)
-    ∙ c.loop-byte.invariant.0 ∙ good c.args.text.now (sym c.if-not-has_no_leading_zero.ensures)
+    let ran = c.try_fold.ensures.ran in
+    let is =
+    number_is _ (λ p x q t. let e : t.0 ≡ extended p.1 x.now = search rules in sym t.2 ∙ e) c.args.text.now (YieldsList-from_slice c.args.text.now cc) _ ran.0 (ran.2, ran.3) ran.5 _ ran.1 ran.4 _ _ ran.6 c.try_fold.result
+    (λ h. h) (λ x h. let e : h.0 ≡ extended ran.3 x.now = search rules in (sym h.4 ∙ e, h.5)) in
+    is ∙ good c.args.text.now (sym c.if-not-has_no_leading_zero.ensures)
