@@ -1,5 +1,3 @@
-pub mod Accepts
-pub mod Acts
-pub mod Questions
+mod Kept
 mod Rounds
-pub mod Tally
+mod Tally

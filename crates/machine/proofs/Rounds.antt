@@ -1,9 +1,10 @@
 -- Where fewer handles are live than the capacity, the search in the cyclic order finds one that is not live.
-use Rattle.std.proofs.Common.{◌≡◌, ℕ, ◌+◌, ◌-◌, ◌%◌, ◌<◌, ◌≤◌, Bool, true, sym, ap, ◌∙◌, subst, ⊎_elim, mod-eq_of_lt, arith}
+use Rattle.std.proofs.Common.{◌≡◌, ℕ, zero, suc, ◌+◌, ◌-◌, ◌%◌, ◌<◌, ◌≤◌, Bool, true, false, not, cond, map, Some, None, Option, MatchOption, refl, sym, ap, ◌∙◌, subst, ⊎_elim, mod-eq_of_lt, below_none, below_more, arith}
+use Rattle.std.specs.List.{find, range_with_len}
 use native.Mathlib.Nat.{add-mod_right}
-use Rattle.std.proofs.lemmas.Bool.{cases_lt, both_ways}
-use Rattle.machine.specs.Coins.{FirstFree}
-use Rattle.machine.specs.Model.{tally}
+use Rattle.std.proofs.lemmas.Bool.{cases_lt}
+use Rattle.machine.specs.Coins.{FirstFree, FreeFrom}
+use Rattle.machine.specs.Model.{Model, tally}
 use Rattle.machine.proofs.Tally.{tally_all, tally_mono}
 
 -- the cyclic order from any start meets every number below the capacity
@@ -28,25 +29,19 @@ not_all_live f capacity start most low room all =
     let l = tally_mono f capacity 64 most in
     omega arith
 
--- one more was live, so the search goes on before it has gone round
-pub goes_on : (f : ℕ → Bool) (capacity start d : ℕ) → capacity ≤ 64 → start < capacity → tally f 64 < capacity → d < capacity → ((k : ℕ) → k < d + 1 → f ((start + k) % capacity) ≡ true) → d + 1 < capacity
-goes_on f capacity start d most low room l all =
-    ⊎_elim (λ (b : d + 1 < capacity). b)
-    (λ (b : capacity ≤ d + 1). absurd (not_all_live f capacity start most low room (λ k h. all k (omega arith))))
-    (cases_lt (d + 1) capacity)
+-- from the distance i on, before which all are live
+searched : (f : ℕ → Bool) (capacity start i n : ℕ) → i + n ≡ capacity → ((k : ℕ) → k < i → f ((start + k) % capacity) ≡ true) → MatchOption (find (λ h. not (f h)) (map (λ d. (start + d) % capacity) (range_with_len i n))) ((k : ℕ) → k < capacity → f ((start + k) % capacity) ≡ true) (FirstFree capacity f start)
+searched f capacity start i zero e passed = λ k l. passed k (omega arith)
+searched f capacity start i (suc n) e passed =
+    elim (f ((start + i) % capacity)) as (λ b. f ((start + i) % capacity) ≡ b → MatchOption (cond (not b) (Some ((start + i) % capacity)) (find (λ h. not (f h)) (map (λ d. (start + d) % capacity) (range_with_len (i + 1) n)))) ((k : ℕ) → k < capacity → f ((start + k) % capacity) ≡ true) (FirstFree capacity f start)) [
+      | true ↦ λ t. searched f capacity start (i + 1) n (omega arith) (below_more (λ k. f ((start + k) % capacity) ≡ true) i passed t)
+      | false ↦ λ t. record { distance = i; once = omega arith; place = refl; free = t; passed = passed }
+    ] refl
 
--- the first free handle is only one
-before : (capacity start h k : ℕ) (f : ℕ → Bool) (p : FirstFree capacity f start h) (q : FirstFree capacity f start k) → p.distance < q.distance → ⊥
-before capacity start h k f p q l =
-    both_ways (f h) p.free (ap f p.place ∙ q.passed p.distance l)
-
-pub one_first : (capacity start h k : ℕ) (f : ℕ → Bool) → FirstFree capacity f start h → FirstFree capacity f start k → h ≡ k
-one_first capacity start h k f p q =
-    ⊎_elim (λ (l : p.distance < q.distance). absurd (before capacity start h k f p q l))
-    (λ (l : q.distance ≤ p.distance).
-    ⊎_elim (λ (b : q.distance < p.distance). absurd (before capacity start k h f q p b))
-    (λ (b : p.distance ≤ q.distance).
-    let e : p.distance ≡ q.distance = omega arith in
-    p.place ∙ ap (λ d. (start + d) % capacity) e ∙ sym q.place)
-    (cases_lt q.distance p.distance))
-    (cases_lt p.distance q.distance)
+pub first_free : (m : Model) (start : ℕ) (r : Option ℕ) → start < m.capacity → tally m.live 64 < m.capacity → r ≡ find (λ h. not (m.live h)) (map (λ d. (start + d) % m.capacity) (range_with_len 0 m.capacity)) → FreeFrom m start r
+first_free m start r low room e =
+    settled r (subst (λ o. MatchOption o ((k : ℕ) → k < m.capacity → m.live ((start + k) % m.capacity) ≡ true) (FirstFree m.capacity m.live start)) (sym e) (searched m.live m.capacity start 0 m.capacity (omega arith) (below_none (λ k. m.live ((start + k) % m.capacity) ≡ true))))
+  where
+    settled : (o : Option ℕ) → MatchOption o ((k : ℕ) → k < m.capacity → m.live ((start + k) % m.capacity) ≡ true) (FirstFree m.capacity m.live start) → FreeFrom m start o
+    settled None all = absurd (not_all_live m.live m.capacity start m.most low room all)
+    settled (Some h) p = (room, p)

@@ -54,16 +54,6 @@ set_with l h b small k =
       | false ↦ λ t. get_or-set_other l h k b false (eqb-false k h t)
     ] refl
 
-pub free_under : (f : ℕ → Bool) (n : ℕ) → tally f n < n → ((k : ℕ) → k < n → f k ≡ true) → ⊥
-free_under f n l all = let e = tally_all f n all in omega arith
-
-pub tally_le : (f : ℕ → Bool) (n : ℕ) → tally f n ≤ n
-unfolding tally
-tally_le f zero = omega arith
-tally_le f (suc n) =
-    let rest = tally_le f n in
-    elim (f n) as (λ b. cond b 1 0 + tally f n ≤ suc n) [ true ↦ omega arith | false ↦ omega arith ]
-
 pub tally_less : (f g : ℕ → Bool) (n h : ℕ) → h < n → f h ≡ true → ((k : ℕ) → g k ≡ with f h false k) → tally g n + 1 ≡ tally f n
 tally_less f g n h l e same =
     sym (tally_more g f n h l (same h ∙ with_here f h false) (λ k.
@@ -74,6 +64,15 @@ tally_less f g n h l e same =
 
 pub live_below : (l : List Bool) (h : ℕ) → get_or l h false ≡ true → h < length l
 live_below l h e = ⊎_elim (λ x. x) (λ x. absurd (both_ways (get_or l h false) (get_or_past l h false x) e)) (order h (length l))
+
+-- a flag set or cleared
+pub set_on : (l : List Bool) (h : ℕ) → length l ≡ 64 → h < 64 → get_or l h false ≡ false → tally (λ k. get_or (set l h true) k false) 64 ≡ tally (λ k. get_or l k false) 64 + 1
+set_on l h long small free = tally_more (λ k. get_or l k false) (λ k. get_or (set l h true) k false) 64 h small free (set_with l h true (omega arith))
+
+pub set_off : (l : List Bool) (h : ℕ) → length l ≡ 64 → get_or l h false ≡ true → tally (λ k. get_or (set l h false) k false) 64 + 1 ≡ tally (λ k. get_or l k false) 64
+set_off l h long alive =
+    let few = live_below l h alive in
+    tally_less (λ k. get_or l k false) (λ k. get_or (set l h false) k false) 64 h (omega arith) alive (set_with l h false few)
 
 pub all_off : (n : ℕ) (k : ℕ) → get_or (replicate n false) k false ≡ false
 all_off zero k = refl

@@ -1,6 +1,6 @@
 -- The numbers and the handles of the coin machine.
-use Rattle.std.specs.Prelude.{◌≡◌, ℕ, ◌+◌, ◌*◌, ◌%◌, ◌<◌, Bool, true, false, Some, None, Option, nat_le}
-use Rattle.machine.specs.Model.{Model}
+use Rattle.std.specs.Prelude.{◌≡◌, ℕ, ◌+◌, ◌*◌, ◌%◌, ◌<◌, ◌≤◌, Bool, true, false, Some, None, Option, nat_le}
+use Rattle.machine.specs.Model.{Model, tally}
 
 -- the number that follows s
 abbrev pub next_number : ℕ → ℕ
@@ -22,6 +22,11 @@ pub record FirstFree (capacity : ℕ) (live : ℕ → Bool) (start h : ℕ) : Ty
   pub place : h ≡ (start + distance) % capacity
   pub free : live h ≡ false
   pub passed : (k : ℕ) → k < distance → live ((start + k) % capacity) ≡ true
+
+-- what a search from start finds: nothing where as many handles are live as the capacity, or more, and otherwise the first that is not live
+abbrev pub FreeFrom : Model → ℕ → Option ℕ → Type 0
+FreeFrom m start None = m.capacity ≤ tally m.live 64
+FreeFrom m start (Some h) = (tally m.live 64 < m.capacity) × FirstFree m.capacity m.live start h
 
 -- h is the handle that prepare gives: the first that is not live in the cyclic order after the last one given
 abbrev pub NextHandle : Model → Option ℕ → ℕ → Type 0

@@ -1,5 +1,6 @@
 -- What a machine means, and what its orders do to that meaning.
 use Rattle.std.specs.Prelude.{◌≡◌, ℕ, zero, suc, ◌+◌, ◌%◌, ◌^◌, ◌<◌, ◌≤◌, min, max, Bool, true, false, cond, not, ◌&&◌, List, [], ◌∷◌, length, Some, None, Option, ◌==◌}
+use Rattle.std.specs.List.{list_all}
 use Rattle.machine.specs.Orders.{width, handle_list}
 use Rattle.machine.specs.declared.order.Gate.{Gate}
 use Rattle.machine.specs.declared.order.Order.{Order}
@@ -27,8 +28,7 @@ with f h b k = cond (k == h) b (f k)
 
 -- all of them pass
 abbrev pub every : (ℕ → Bool) → List ℕ → Bool
-every f [] = true
-every f (x ∷ xs) = f x && every f xs
+every f hs = list_all f hs
 
 abbrev pub absent : ℕ → List ℕ → Bool
 absent x [] = true

@@ -1,4 +1,5 @@
 // The coin machine: it answers bits from a number that changes with each measurement.
+// It shares the board with the script machine, and no type over a policy: that type's clauses would only restate those of the two policies.
 ghost use Rattle.std.specs.Prelude.{◌≡◌, ◌<◌, Some, None};
 ghost use Rattle.machine.specs.Boards.{seen};
 ghost use Rattle.machine.specs.Coins.{next_number, bit_of, handle_after, NextHandle, OneNextHandle};
@@ -17,9 +18,9 @@ pub struct Coin {
     board: Board,
 }
 
-const MULTIPLIER: u32 = 25173;
+const MULTIPLIER: u16 = 25173;
 
-const INCREMENT: u32 = 13849;
+const INCREMENT: u16 = 13849;
 // A number from here on gives the bit one.
 const HALF: u16 = 32768;
 
@@ -27,7 +28,7 @@ const HALF: u16 = 32768;
 fn next_number(s: u16) -> u16
     ensures { result ≡ next_number s }
 {
-    ((MULTIPLIER * s as u32 + INCREMENT) % 65536) as u16
+    s.wrapping_mul(MULTIPLIER).wrapping_add(INCREMENT)
 }
 
 // The handle after the last one given: 0 after the greatest, and 0 where none was given.
@@ -35,10 +36,10 @@ fn handle_after(capacity: u8, last: Option<u8>) -> u8
     requires { 0 < capacity }
     ensures { result ≡ handle_after capacity last }
 {
-    match last {
-        None => 0,
-        Some(last) => ((last as u16 + 1) % capacity as u16) as u8,
-    }
+    last.map_or(
+        0,
+        |last| ((u16::from(last) + 1) % u16::from(capacity)) as u8,
+    )
 }
 
 // The promise about the handle that prepare gives leaves no choice.
@@ -75,12 +76,8 @@ impl Machine for Coin {
         ensures last { IfAccepted result (λ h. self.new.last ≡ Some h) }
         ensures number { self.new.s ≡ self.old.s }
     {
-        if self.board.is_full() {
-            return Err(Refusal::Full);
-        }
         let start = handle_after(self.board.capacity(), self.last);
-        let handle = self.board.free_from(start);
-        self.board.prepare(handle);
+        let handle = self.board.prepare(start)?;
         self.last = Some(handle);
         Ok(handle)
     }
@@ -92,12 +89,10 @@ impl Machine for Coin {
         ensures bit { IfAccepted result (λ b. b ≡ bit_of (next_number self.old.s)) }
         ensures last { self.new.last ≡ self.old.last }
     {
-        if !self.board.is_live(handle) {
-            return Err(Refusal::Dead);
-        }
-        self.s = next_number(self.s);
-        let bit = self.s >= HALF;
-        self.board.measure(handle, bit);
+        let s = next_number(self.s);
+        let bit = s >= HALF;
+        self.board.measure(handle, bit)?;
+        self.s = s;
         Ok(bit)
     }
 
@@ -115,8 +110,6 @@ impl Machine for Coin {
         ensures number { self.new.s ≡ self.old.s }
         ensures last { self.new.last ≡ self.old.last }
     {
-        let handles = self.board.admit(gate, handles)?;
-        self.board.apply(gate, handles);
-        Ok(())
+        self.board.gate(gate, handles)
     }
 }

@@ -32,19 +32,11 @@ impl<'a> Script<'a> {
         }
     }
 
-    // The bit at the place, which moves on.
-    fn bit(&mut self) -> bool
-        ensures bit { result ≡ bit_at self.old.bits.now self.old.next }
-        ensures bits { self.new.bits ≡ self.old.bits }
-        ensures place { self.new.next ≡ next_place self.old.bits.now self.old.next }
-        ensures board { self.new.board ≡ self.old.board }
+    // The bit at the place.
+    fn bit(&self) -> bool
+        ensures { result ≡ bit_at self.now.bits.now self.now.next }
     {
-        if self.next >= self.bits.len() {
-            return false;
-        }
-        let bit = self.bits[self.next] != 0;
-        self.next += 1;
-        bit
+        self.bits.get(self.next).is_some_and(|byte| *byte != 0)
     }
 }
 
@@ -55,20 +47,17 @@ impl Machine for Script<'_> {
         self.board.capacity()
     }
 
+    #[tactic(auto, using(crate::proofs::Kept::script_kept))]
     fn prepare(&mut self) -> Result<u8, Refusal>
         ensures answer { PrepareAnswer (seen self.old.board) (seen self.new.board) result }
         ensures same { IfRefused result (self.new ≡ self.old) }
         ensures bits { self.new.bits ≡ self.old.bits }
         ensures place { self.new.next ≡ self.old.next }
     {
-        if self.board.is_full() {
-            return Err(Refusal::Full);
-        }
-        let handle = self.board.free_from(0);
-        self.board.prepare(handle);
-        Ok(handle)
+        self.board.prepare(0)
     }
 
+    #[tactic(auto, using(crate::proofs::Kept::script_kept))]
     fn measure(&mut self, handle: u8) -> Result<bool, Refusal>
         ensures answer { MeasureAnswer handle (seen self.old.board) (seen self.new.board) result }
         ensures same { IfRefused result (self.new ≡ self.old) }
@@ -76,11 +65,9 @@ impl Machine for Script<'_> {
         ensures bits { self.new.bits ≡ self.old.bits }
         ensures place { IfAccepted result (λ _. self.new.next ≡ next_place self.old.bits.now self.old.next) }
     {
-        if !self.board.is_live(handle) {
-            return Err(Refusal::Dead);
-        }
         let bit = self.bit();
-        self.board.measure(handle, bit);
+        self.board.measure(handle, bit)?;
+        self.next = (self.next + 1).min(self.bits.len());
         Ok(bit)
     }
 
@@ -92,14 +79,13 @@ impl Machine for Script<'_> {
         self.board.clear();
     }
 
+    #[tactic(auto, using(crate::proofs::Kept::script_kept))]
     fn gate(&mut self, gate: Gate, handles: &[u8]) -> Result<(), Refusal>
         ensures answer { GateAnswer gate handles.now (seen self.old.board) (seen self.new.board) result }
         ensures same { IfRefused result (self.new ≡ self.old) }
         ensures bits { self.new.bits ≡ self.old.bits }
         ensures place { self.new.next ≡ self.old.next }
     {
-        let handles = self.board.admit(gate, handles)?;
-        self.board.apply(gate, handles);
-        Ok(())
+        self.board.gate(gate, handles)
     }
 }

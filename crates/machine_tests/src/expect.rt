@@ -9,20 +9,15 @@ pub fn refused<T: Drop>(
     answer: Result<T, Refusal>,
     number: u8,
 ) -> Result<(), Fail> {
-    match answer {
-        Ok(_) => Err(Fail::new("accepted")),
-        Err(refusal) => {
-            assert_eq!(rt; refusal.number(), number);
-            Ok(())
-        },
-    }
+    let Err(refusal) = answer else {
+        return Err(Fail::new("accepted"));
+    };
+    assert_eq!(rt; refusal.number(), number);
+    Ok(())
 }
 
 pub fn accepted<T: Drop>(answer: Result<T, Refusal>) -> Result<T, Fail> {
-    match answer {
-        Ok(value) => Ok(value),
-        Err(_) => Err(Fail::new("refused")),
-    }
+    answer.map_err(|_| Fail::new("refused"))
 }
 
 // One prepare for each handle gives it.

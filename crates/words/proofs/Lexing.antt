@@ -1,11 +1,21 @@
 -- The laws of `lex` that a reader uses.
-use Rattle.std.proofs.Common.{◌≡◌, ℕ, zero, suc, ◌+◌, ◌<◌, ◌≤◌, Bool, true, false, cond, List, [], ◌∷◌, ◌++◌, length, get_or, take, drop, Some, None, sym, refl, ap, ◌∙◌, subst, ⊎_elim, add-zero, arith}
+use Rattle.std.proofs.Common.{◌≡◌, ℕ, zero, suc, max, ◌+◌, ◌-◌, ◌<◌, ◌≤◌, Bool, true, false, cond, List, [], ◌∷◌, ◌++◌, length, get_or, take, drop, Some, None, sym, refl, ap, ◌∙◌, subst, ⊎_elim, add-zero, arith}
 use Rattle.std.specs.List.{prefix_len, AllByRecursion}
-use Rattle.std.proofs.lemmas.List.{drop_more, drop-drop, drop_all}
+use Rattle.std.proofs.lemmas.List.{drop_more, drop-drop, drop_all, take_all, length-drop}
+use Rattle.std.proofs.lemmas.List.Sums.{prefix_len_is}
 use Rattle.std.proofs.lemmas.Bool.{cases_Bool}
 use Rattle.words.specs.Bytes.{blank, inner}
 use Rattle.words.specs.declared.token.Word.{Word}
 use Rattle.words.specs.Words.{Item, Lexed, items, bad_at, before, begin, sort_of, seen, extent, span, lex, words_from, Means}
+
+-- the rest of a listing, as the code cuts it
+pub rest_is : (s : List ℕ) (at : ℕ) → take (length s - at) (drop at s) ≡ drop at s
+rest_is s at = take_all (length s - at) (drop at s) (omega (arith, length-drop at s))
+
+-- n bytes of it come first that pass
+pub front_is : (p : ℕ → Bool) (s : List ℕ) (at n : ℕ) → n ≤ length (take (length s - at) (drop at s)) → ((k : ℕ) → k < n → true ≡ p (get_or (take (length s - at) (drop at s)) k 0)) → (n < length (take (length s - at) (drop at s)) → false ≡ p (get_or (take (length s - at) (drop at s)) n 0)) → n ≡ prefix_len p (drop at s)
+front_is p s at n within passed stopped =
+    sym (prefix_len_is p (take (length s - at) (drop at s)) n 0 within (λ k l. sym (passed k l)) (λ l. sym (stopped l))) ∙ ap (prefix_len p) (rest_is s at)
 
 -- the bytes of a word that was given already are passed
 pub lex_pass : (at k : ℕ) (bs : List ℕ) → lex at k bs ≡ lex (at + k) 0 (drop k bs)
@@ -61,21 +71,13 @@ first_fails : (p : ℕ → Bool) (x : ℕ) (xs : List ℕ) → prefix_len p (x �
 first_fails p x xs e = ⊎_elim (λ (h : p x ≡ true). let q = leading_yes p x xs h in absurd (omega arith)) (λ (h : p x ≡ false). h) (cases_Bool (p x))
 
 -- the first word is a run, or one byte
-pub span_run : (xs : List ℕ) → 0 < prefix_len inner xs → span xs ≡ prefix_len inner xs
-span_run [] h = absurd (omega arith)
-span_run (x ∷ xs) h =
+pub span_is : (xs : List ℕ) → 0 < length xs → max (prefix_len inner xs) 1 ≡ span xs
+span_is [] h = absurd (omega arith)
+span_is (x ∷ xs) h =
     ⊎_elim
-    (λ (e : inner x ≡ true). ap (λ t. suc (cond t (prefix_len inner xs) 0)) e ∙ sym (leading_yes inner x xs e))
-    (λ (e : inner x ≡ false). let q = leading_no inner x xs e in absurd (omega arith))
+    (λ (e : inner x ≡ true). let q = leading_yes inner x xs e in omega arith ∙ ap (λ t. suc (cond t (prefix_len inner xs) 0)) (sym e))
+    (λ (e : inner x ≡ false). let q = leading_no inner x xs e in omega arith ∙ ap (λ t. suc (cond t (prefix_len inner xs) 0)) (sym e))
     (cases_Bool (inner x))
-
-pub span_one : (s : List ℕ) (i : ℕ) → i < length s → prefix_len inner (drop i s) ≡ 0 → span (drop i s) ≡ 1
-span_one s i lt e =
-    let first = drop_more s i 0 lt in
-    ap span first ∙ ap (λ t. suc (cond t (prefix_len inner (drop (i + 1) s)) 0)) (first_fails inner (get_or s i 0) (drop (i + 1) s) (ap (prefix_len inner) (sym first) ∙ e))
-
-pub long_as : (w bs : List ℕ) (n m : ℕ) → w ≡ take n bs → m ≡ n → w ≡ take m bs
-long_as w bs n m is e = is ∙ ap (λ k. take k bs) (sym e)
 
 -- the reader at i, past the blanks
 module _ (s : List ℕ) (at i : ℕ) (skipped : i ≡ at + prefix_len blank (drop at s)) where

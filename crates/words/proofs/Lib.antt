@@ -1,5 +1,3 @@
-pub mod Given
-pub mod KindNumbers
 pub mod Lexing
 pub mod Lookups
 pub mod Numerals

@@ -1,33 +1,26 @@
 -- Each word is spelled as its sort says.
-use Rattle.std.proofs.Common.{◌≡◌, ℕ, ◌+◌, Bool, true, false, cond, ◌&&◌, ◌||◌, leb, List, [], ◌∷◌, length, Some, None, Option, sym, refl, ap, subst, inl, inr}
+use Rattle.std.proofs.Common.{◌≡◌, ℕ, ◌+◌, Bool, true, false, cond, ◌&&◌, ◌||◌, leb, List, [], ◌∷◌, length, Some, None, Option, sym, refl, subst, inl, inr}
 use Rattle.std.specs.Str.Parse.{digits_value}
 use Rattle.std.specs.Int.{is_in_range}
 use Rattle.std.specs.List.{AllByRecursion}
 use Rattle.machine.specs.declared.order.Gate.{Gate}
 use Rattle.words.specs.declared.token.Kind.{Kind}
+use Rattle.std.proofs.lemmas.Option.{none-some, same_Some}
 use Rattle.words.specs.Bytes.{inner, letter}
 use Rattle.words.specs.Spellings.{kinds, gates, lookup}
 use Rattle.words.specs.Words.{Sort, name, number, gate, fixed, found, good_number, good_name, longest, sort_of, Item, Whole, Worded, BlankEnd}
 use Rattle.words.specs.Laws.{Spells, WordsAreSpelled}
 use Rattle.words.proofs.Weaving.{accepted}
 
-abbrev sort_in : Option Sort → Sort
-sort_in (Some s) = s
-sort_in None = name
-
-abbrev Found : Option Sort → Type 0
-Found (Some s) = Unit {0}
-Found None = ⊥
-
 -- the answers of the two tables and of the two tests
 by_cases : (w : List ℕ) → (good_name w ≡ true → AllByRecursion (λ b. inner b ≡ true) w)
     → (k : Option Kind) (g : Option Gate) (m n : Bool) → lookup w kinds ≡ k → lookup w gates ≡ g → good_number w ≡ m → good_name w ≡ n
     → (s : Sort) → found fixed k (found gate g (cond m (Some (number (digits_value 10 w))) (cond n (Some name) None))) ≡ Some s → Spells s w
-by_cases w runs (Some k) g m n ek eg em en s e = subst (λ t. Spells t w) (ap sort_in e) ek
-by_cases w runs None (Some g) m n ek eg em en s e = subst (λ t. Spells t w) (ap sort_in e) eg
-by_cases w runs None None true n ek eg em en s e = subst (λ t. Spells t w) (ap sort_in e) (em, refl)
-by_cases w runs None None false true ek eg em en s e = subst (λ t. Spells t w) (ap sort_in e) (en, runs en, ek, eg)
-by_cases w runs None None false false ek eg em en s e = absurd (subst Found (sym e) tt)
+by_cases w runs (Some k) g m n ek eg em en s e = subst (λ t. Spells t w) (same_Some _ _ e) ek
+by_cases w runs None (Some g) m n ek eg em en s e = subst (λ t. Spells t w) (same_Some _ _ e) eg
+by_cases w runs None None true n ek eg em en s e = subst (λ t. Spells t w) (same_Some _ _ e) (em, refl)
+by_cases w runs None None false true ek eg em en s e = subst (λ t. Spells t w) (same_Some _ _ e) (en, runs en, ek, eg)
+by_cases w runs None None false false ek eg em en s e = absurd (none-some s e)
 
 spells : (w : List ℕ) → (good_name w ≡ true → AllByRecursion (λ b. inner b ≡ true) w) → (s : Sort) → sort_of w ≡ Some s → Spells s w
 unfolding sort_of

@@ -1,12 +1,15 @@
 -- The word that comes next, where it stands, and the words that were read.
-use Rattle.std.proofs.Common.{◌≡◌, ℕ, ◌+◌, ◌<◌, ◌≤◌, List, [], ◌∷◌, ◌++◌, length, get_or, take, drop, Some, None, Option, sym, refl, ap, ◌∙◌, subst, arith, take-append-drop, length-take-le}
+use Rattle.std.proofs.Common.{◌≡◌, ℕ, ◌+◌, ◌<◌, ◌≤◌, List, [], ◌∷◌, ◌++◌, length, get_or, take, drop, Some, None, Option, Result, sym, refl, ap, ◌∙◌, subst, arith, take-append-drop, length-take-le}
 use Rattle.std.specs.List.{prefix_len}
+use Rattle.std.specs.Option.{option_map, ok_or}
 use Rattle.std.proofs.lemmas.List.{drop_more, drop-drop}
 use Rattle.std.proofs.lemmas.List.Sums.{prefix_len-le-length}
 use Rattle.words.specs.Bytes.{blank}
 use Rattle.words.specs.declared.token.Word.{Word}
-use Rattle.words.specs.Words.{Sort, Item, sort_of, seen, span, Means, Whole, Stands, Worded, BadEnd, GoodEnd, ComesNext}
-use Rattle.words.proofs.Lexing.{leading_all, not_blank}
+use Rattle.words.specs.declared.token.WordFault.{WordFault}
+use Rattle.words.specs.declared.token.WordFault.TheVariants.{Bad}
+use Rattle.words.specs.Words.{Sort, Item, sort_of, seen, span, Means, Whole, Stands, Worded, BadEnd, GoodEnd, ComesNext, Next}
+use Rattle.words.proofs.Lexing.{leading_all, not_blank, reads, refuses}
 use Rattle.words.proofs.Weaving.{extent_le, whole}
 
 -- the reader of s at i, past the blanks
@@ -54,6 +57,12 @@ module _ (s t : List ℕ) (same : t ≡ s) (at i j : ℕ) (skipped : i ≡ at + 
 
   pub word_comes : (x : Word) → Means w i (Some x) → ComesNext s at j (seen x).bytes (seen x).place (Some (seen x).sort)
   word_comes x m = subst (λ y. ComesNext s at j y.bytes y.place (Some (seen x).sort)) (sym m.1) (comes (Some (seen x).sort) m.0)
+
+  pub next_is : (o : Option Word) → Means w i o → (r : Result (Option Word) WordFault) → r ≡ ok_or (option_map (λ (x : Word). Some x) o) (Bad i) → Next s at j r
+  next_is (Some x) m r e =
+      let n = reads s t same at i j skipped some w is to x m in
+      subst (Next s at j) (sym e) (n.0, n.1, word_comes x m)
+  next_is None m r e = subst (Next s at j) (sym e) (refuses s t same at i j skipped some w is m, (w, comes None m))
 
 -- the reading of s has come to the place `to`
 abbrev pub Come : List ℕ → ℕ → ℕ → List ℕ → Type 0

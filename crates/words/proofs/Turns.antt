@@ -9,68 +9,67 @@ use Rattle.words.specs.Words.{seen, words_of, words_from, refused, Worded, Next,
 use Rattle.words.proofs.Standing.{Come, read_more, good_left, bad_left}
 
 -- the list `cur` is the list `old` with the words of s before the place `at`, to which the reading has come
-abbrev pub SoFar : List ℕ → ℕ → List Word → List Word → Type 0
-SoFar s at old cur = (ws : List Word) × (cur ≡ old ++ ws) × (after (map seen ws) (words_from s at) ≡ words_of s) × (length ws ≤ at) × Worded 0 s (map seen ws) (Come s at)
+pub record SoFar (s : List ℕ) (at : ℕ) (old cur : List Word) : Type 0 where
+  pub words : List Word
+  pub added : cur ≡ old ++ words
+  pub read : after (map seen words) (words_from s at) ≡ words_of s
+  pub few : length words ≤ at
+  pub stand : Worded 0 s (map seen words) (Come s at)
 
 pub at_first : (s : List ℕ) (at : ℕ) (old : List Word) → at ≡ 0 → SoFar s at old old
-at_first s at old e = ([], sym (append-nil old), ap (words_from s) e, omega arith, (sym e, ap (λ n. drop n s) (sym e)))
-
--- whether an answer is of want of memory
-Wants : Result (Unit {0}) WordFault → Type 0
-Wants (Ok _) = ⊥
-Wants (Err (Bad p)) = ⊥
-Wants (Err Memory) = Unit {0}
+at_first s at old e = record { words = []; added = sym (append-nil old); read = ap (words_from s) e; few = omega arith; stand = (sym e, ap (λ n. drop n s) (sym e)) }
 
 pub answered : (r : Result (Unit {0}) WordFault) → r ≡ Ok tt → r ≡ Err Memory → ⊥
-unfolding Wants
-answered r is m = subst Wants (sym m ∙ is) tt
+answered r is m = cc
 
-module _ (s t : List ℕ) (same : t ≡ s) (at at' : ℕ) (old cur : List Word) (so : SoFar s at old cur) where
-  pub again : (o : Option Word) (w : Word) (new : List Word) → o ≡ Some w → Next t at at' (Ok o) → new ≡ cur ++ w ∷ [] → SoFar s at' old new
-  again o w new is h pushed =
-      let ws = so.0 in
-      let n : Next s at at' (Ok (Some w)) = subst (λ l. Next l at at' (Ok (Some w))) same (subst (λ x. Next t at at' (Ok x)) is h) in (
-        ws ++ w ∷ [],
-        pushed ∙ ap (λ l. l ++ w ∷ []) so.1 ∙ append_assoc old ws (w ∷ []),
-        ap (λ l. after l (words_from s at')) (map_push seen ws w) ∙ after_push (map seen ws) (seen w) (words_from s at')
-            ∙ ap (after (map seen ws)) (sym n.0) ∙ so.2,
-        omega (arith, so.3, n.1, length-append ws (w ∷ [])),
-        subst (λ l. Worded 0 s l (Come s at')) (sym (map_push seen ws w)) (read_more s at at' (map seen ws) so.4 (seen w) n.2),
-      )
+-- one turn, from the place `at` to at'
+module _ {s t : List ℕ} (same : t ≡ s) {at : ℕ} (at' : ℕ) {old cur : List Word} (so : SoFar s at old cur) where
+  pub again : {o : Option Word} (w : Word) {new : List Word} → o ≡ Some w → Next t at at' (Ok o) → new ≡ cur ++ w ∷ [] → SoFar s at' old new
+  again {o} w {new} is h pushed =
+      let ws = so.words in
+      let n : Next s at at' (Ok (Some w)) = subst (λ l. Next l at at' (Ok (Some w))) same (subst (λ x. Next t at at' (Ok x)) is h) in
+      record {
+        words = ws ++ w ∷ [];
+        added = pushed ∙ ap (λ l. l ++ w ∷ []) so.added ∙ append_assoc old ws (w ∷ []);
+        read =
+            ap (λ l. after l (words_from s at')) (map_push seen ws w) ∙ after_push (map seen ws) (seen w) (words_from s at')
+            ∙ ap (after (map seen ws)) (sym n.0) ∙ so.read;
+        few = omega (arith, so.few, n.1, length-append ws (w ∷ []));
+        stand = subst (λ l. Worded 0 s l (Come s at')) (sym (map_push seen ws w)) (read_more s at at' (map seen ws) so.stand (seen w) n.2);
+      }
 
-  pub less : (o : Option Word) (w : Word) → o ≡ Some w → Next t at at' (Ok o) → at < at'
-  less o w is h = (subst (λ x. Next t at at' (Ok x)) is h).1
+  pub less : {o : Option Word} (w : Word) → o ≡ Some w → Next t at at' (Ok o) → at < at'
+  less {o} w is h = (subst (λ x. Next t at at' (Ok x)) is h).1
 
-  pub ends : (o : Option Word) → o ≡ None → Next t at at' (Ok o) → Appended old cur (λ ws. Lexes s ws (Ok tt))
-  ends o is h =
+  pub ends : {o : Option Word} → o ≡ None → Next t at at' (Ok o) → Appended old cur (λ ws. Lexes s ws (Ok tt))
+  ends {o} is h =
       let n : Next s at at' (Ok None) = subst (λ l. Next l at at' (Ok None)) same (subst (λ x. Next t at at' (Ok x)) is h) in
-      (so.0, so.1, sym so.2 ∙ ap (after (map seen so.0)) n.0 ∙ after_end (map seen so.0))
+      (so.words, so.added, sym so.read ∙ ap (after (map seen so.words)) n.0 ∙ after_end (map seen so.words))
 
   pub breaks : (e : WordFault) → Next t at at' (Err e) → (r : Result (Unit {0}) WordFault) → r ≡ Err e → Appended old cur (λ ws. Lexes s ws r)
-  breaks e h r is = (so.0, so.1, subst (Lexes s so.0) (sym is) (at_fault e h))
+  breaks e h r is = (so.words, so.added, subst (Lexes s so.words) (sym is) (at_fault e h))
     where
-      at_fault : (f : WordFault) → Next t at at' (Err f) → Lexes s so.0 (Err f)
+      at_fault : (f : WordFault) → Next t at at' (Err f) → Lexes s so.words (Err f)
       at_fault (Bad p) n =
           let m : Next s at at' (Err (Bad p)) = subst (λ l. Next l at at' (Err (Bad p))) same n in
-          let bad = sym so.2 ∙ ap (after (map seen so.0)) m.0 ∙ after_bad (map seen so.0) p in
-          (bad, ap refused bad, bad_left s at at' (map seen so.0) so.4 m.1.0 p m.1.1)
+          let bad = sym so.read ∙ ap (after (map seen so.words)) m.0 ∙ after_bad (map seen so.words) p in
+          (bad, ap refused bad, bad_left s at at' (map seen so.words) so.stand m.1.0 p m.1.1)
       at_fault Memory n = absurd n
 
   -- a reader never wants memory
   pub fits : (e : WordFault) → Next t at at' (Err e) → (r : Result (Unit {0}) WordFault) → r ≡ Err e → r ≡ Err Memory → ⊥
-  unfolding Wants
-  fits (Bad p) h r is m = subst Wants (sym m ∙ is) tt
+  fits (Bad p) h r is m = cc
   fits Memory h r is m = h
 
   -- there was no room for one word more
-  pub full : (o : Option Word) (w : Word) → o ≡ Some w → Next t at at' (Ok o) → (new : List Word) (r : Result (Unit {0}) WordFault) → new ≡ cur → r ≡ Err Memory → Appended old new (λ ws. Lexes s ws r)
-  full o w one h new r kept is =
+  pub full : {o : Option Word} (w : Word) → o ≡ Some w → Next t at at' (Ok o) → (new : List Word) (r : Result (Unit {0}) WordFault) → new ≡ cur → r ≡ Err Memory → Appended old new (λ ws. Lexes s ws r)
+  full {o} w one h new r kept is =
       let n : Next s at at' (Ok (Some w)) = subst (λ l. Next l at at' (Ok (Some w))) same (subst (λ x. Next t at at' (Ok x)) one h) in
-      (so.0, kept ∙ so.1, subst (Lexes s so.0) (sym is) (good_left s at at' (map seen so.0) so.4 (seen w) n.2))
+      (so.words, kept ∙ so.added, subst (Lexes s so.words) (sym is) (good_left s at at' (map seen so.words) so.stand (seen w) n.2))
 
   pub no_room : (cap cap' : ℕ) → cap ≤ cap' → cap' ≤ length cur → at < at' → at' ≤ length t → cap < length old + length s
   no_room cap cap' grows none h within =
       let n = ap length same in
-      let m = ap length so.1 ∙ length-append old so.0 in
-      let few = so.3 in
+      let m = ap length so.added ∙ length-append old so.words in
+      let few = so.few in
       omega arith

@@ -1,28 +1,14 @@
 -- The laws of the words of a listing.
-use Rattle.std.proofs.Common.{◌≡◌, ℕ, zero, suc, ◌+◌, ◌<◌, ◌≤◌, Bool, true, false, cond, eqb, List, [], ◌∷◌, ◌++◌, length, take, drop, Some, None, Option, sym, refl, ap, ◌∙◌, subst, inl, inr, ⊎_elim, append_assoc, add-zero, arith, length-append, take-append-drop, length-take-le}
+use Rattle.std.proofs.Common.{◌≡◌, ℕ, zero, suc, ◌+◌, ◌<◌, ◌≤◌, true, false, cond, List, [], ◌∷◌, ◌++◌, length, take, drop, Some, None, Option, sym, refl, ap, ◌∙◌, subst, inl, inr, ⊎_elim, append_assoc, add-zero, arith, length-append, take-append-drop, length-take-le}
 use lib.Seq.{take-append_seam, drop-append_seam}
 use Rattle.std.specs.List.{prefix_len, AllByRecursion}
 use Rattle.std.proofs.lemmas.List.Sums.{prefix_len-le-length}
-use Rattle.std.proofs.lemmas.Bool.{cases_Bool, cond_both, eqb-true, or_cases}
+use Rattle.std.proofs.lemmas.Bool.{cases_Bool, cond_both}
+use Rattle.std.proofs.lemmas.Bool.Decides.{nat_tests}
 use Rattle.words.specs.Bytes.{blank, inner}
 use Rattle.words.specs.Words.{Sort, Item, item, Lexed, items, bad_at, before, begin, sort_of, extent, lex, words_of, Blanks, Whole, Stands, Worded, BlankEnd, BadEnd}
 use Rattle.words.specs.Laws.{AcceptedExactly, RefusedExactly, Rising, Part, PlacesRise, WordsAreParts, NoMoreWordsThanBytes, BadWordsAreWithin}
 use Rattle.words.proofs.Lexing.{lex_pass, lex_blank, lex_word, leading_yes, after_leading, leading_all, after, after_end, after_bad}
-
-abbrev listed : Lexed → List Item
-listed (items xs) = xs
-listed (bad_at p) = []
-
-abbrev where_bad : Lexed → ℕ
-where_bad (items xs) = 0
-where_bad (bad_at p) = p
-
-abbrev Accepted : Lexed → Type 0
-Accepted (items xs) = Unit {0}
-Accepted (bad_at p) = ⊥
-
-both : {A : Type 0} (p : ℕ) (xs : List Item) → bad_at p ≡ items xs → A
-both p xs e = absurd (subst Accepted (sym e) tt)
 
 pub extent_le : (b : ℕ) (bs : List ℕ) → extent b bs ≤ length bs
 extent_le b bs = cond_both (inner b) (prefix_len inner bs) 0 (λ n. n ≤ length bs) (λ _. prefix_len-le-length inner bs) (λ _. omega arith)
@@ -111,22 +97,7 @@ leading_append [] rest h e = e
 leading_append (x ∷ w) rest h e = leading_yes inner x (w ++ rest) h.0 ∙ ap suc (leading_append w rest h.1 e)
 
 inner_no_blank : (b : ℕ) → inner b ≡ true → blank b ≡ false
-inner_no_blank b e =
-    ⊎_elim
-    (λ (t : blank b ≡ true).
-    ⊎_elim
-    (λ (h : eqb b 32 ≡ true). absurd (true_not_false (sym (subst (λ n. inner n ≡ true) (eqb-true b 32 h) e))))
-    (λ (h : eqb b 10 ≡ true). absurd (true_not_false (sym (subst (λ n. inner n ≡ true) (eqb-true b 10 h) e))))
-    (or_cases (eqb b 32) (eqb b 10) t))
-    (λ (t : blank b ≡ false). t)
-    (cases_Bool (blank b))
-  where
-    Is : Bool → Type 0
-    Is true = Unit {0}
-    Is false = ⊥
-
-    true_not_false : true ≡ false → ⊥
-    true_not_false h = subst Is h tt
+inner_no_blank b e = grind (arith, nat_tests)
 
 whole_next : (at : ℕ) (w rest : List ℕ) → Whole w rest → lex at 0 (w ++ rest) ≡ begin (sort_of w) w at (lex (at + length w) 0 rest)
 whole_next at [] rest (inl h) = absurd (omega (arith, h.0))

@@ -1,9 +1,9 @@
 // What the bytes of a word say.
-ghost use Rattle.std.specs.Prelude.{◌≡◌, if◌then◌else◌, Some, None, MatchBool};
+ghost use Rattle.std.specs.Prelude.{◌≡◌, ◌+◌, ◌*◌, ◌&&◌, if◌then◌else◌, Some, None, MatchBool, nat_le};
 ghost use Rattle.std.specs.Str.Parse.{digits_value};
-ghost use Rattle.std.specs.Char.{IsAsciiDigit, IsNotAsciiDigit};
+ghost use Rattle.std.specs.Char.{IsAsciiDigit, IsNotAsciiDigit, digit_value};
 ghost use Rattle.words.specs.Bytes.{digit};
-ghost use Rattle.words.specs.Words.{no_leading_zero, good_number, good_name, Means};
+ghost use Rattle.words.specs.Words.{largest, no_leading_zero, good_number, good_name, Means};
 
 use crate::spelling::{gate, kind};
 use crate::token::Word;
@@ -18,7 +18,11 @@ const LARGEST: u32 = 65535;
 fn has_no_leading_zero(text: &[u8]) -> bool
     ensures { result ≡ no_leading_zero text.now }
 {
-    !text.is_empty() && (text.len() == 1 || text[0] != b'0')
+    match text {
+        [] => false,
+        [_] => true,
+        [first, ..] => *first != b'0',
+    }
 }
 
 fn is_digit(byte: u8) -> bool
@@ -28,6 +32,20 @@ fn is_digit(byte: u8) -> bool
     byte.is_ascii_digit()
 }
 
+// The value with the digit `byte` at its end; none where the byte is no digit, or the value too large.
+fn with_digit(value: u32, byte: u8) -> Option<u32>
+    ensures { result ≡ (if digit byte && nat_le (value * 10 + digit_value byte) largest then Some (value * 10 + digit_value byte) else None) }
+{
+    if !is_digit(byte) {
+        return None;
+    }
+    let digit = u32::from(byte - b'0');
+    if value > (LARGEST - digit) / 10 {
+        return None;
+    }
+    Some(value * 10 + digit)
+}
+
 // The value of a good number.
 fn number(text: &[u8]) -> Option<u32>
     ensures { result ≡ (if good_number text.now then Some (digits_value 10 text.now) else None) }
@@ -35,24 +53,14 @@ fn number(text: &[u8]) -> Option<u32>
     if !has_no_leading_zero(text) {
         return None;
     }
-    let mut value: u32 = 0;
-    for byte in text {
-        if !is_digit(*byte) {
-            return None;
-        }
-        let digit = (*byte - b'0') as u32;
-        if value > (LARGEST - digit) / 10 {
-            return None;
-        }
-        value = value * 10 + digit;
-    }
-    Some(value)
+    text.iter()
+        .try_fold(0, |value, byte| with_digit(value, *byte))
 }
 
 fn is_name(text: &[u8]) -> bool
     ensures { result ≡ good_name text.now }
 {
-    !text.is_empty() && text.len() <= LONGEST && text[0].is_ascii_alphabetic()
+    text.len() <= LONGEST && text.first().is_some_and(|byte| byte.is_ascii_alphabetic())
 }
 
 // The word that the bytes `text` at `place` are, if they are a good one.

@@ -1,5 +1,5 @@
 // A reader over a borrowed listing.
-ghost use Rattle.std.specs.Prelude.{◌≡◌, ◌+◌, ◌≤◌, length, take, drop};
+ghost use Rattle.std.specs.Prelude.{◌≡◌, ℕ, ◌+◌, ◌<◌, ◌≤◌, true, false, length, take, drop, slice_index};
 ghost use Rattle.words.specs.Bytes.{blank, inner};
 ghost use Rattle.std.specs.List.{prefix_len};
 
@@ -16,13 +16,26 @@ pub struct Reader<'a> {
 fn is_blank(b: u8) -> bool
     ensures { result ≡ blank b }
 {
-    b == b' ' || b == b'\n'
+    matches!(b, b' ' | b'\n')
 }
 
 fn is_inner(b: u8) -> bool
     ensures { result ≡ inner b }
 {
     b.is_ascii_alphanumeric()
+}
+
+// How many bytes come first that pass the test.
+fn front_len<F: Fn(u8) -> bool>(bytes: &[u8], test: F) -> usize
+    requires { F.IsAlwaysCallable test }
+    ensures within { result ≤ length bytes.now }
+    ensures passed { (k : ℕ) → k < result → F.post test (slice_index bytes.now k) true }
+    ensures stopped { result < length bytes.now → F.post test (slice_index bytes.now result) false }
+{
+    bytes
+        .iter()
+        .position(|byte| !test(*byte))
+        .unwrap_or(bytes.len())
 }
 
 impl<'a> Reader<'a> {
@@ -38,21 +51,6 @@ impl<'a> Reader<'a> {
         ensures listing { self.new.listing.now ≡ self.old.listing.now }
         ensures place { self.new.place ≡ self.old.place + prefix_len blank (drop self.old.place self.old.listing.now) }
     {
-        while self.place < self.listing.len() && is_blank(self.listing[self.place]) {
-            self.place += 1;
-        }
-    }
-
-    // The longest run of letters and digits that comes next.
-    fn run(&mut self) -> &'a [u8]
-        ensures listing { self.new.listing.now ≡ self.old.listing.now }
-        ensures place { self.new.place ≡ self.old.place + prefix_len inner (drop self.old.place self.old.listing.now) }
-        ensures text { result.now ≡ take (prefix_len inner (drop self.old.place self.old.listing.now)) (drop self.old.place self.old.listing.now) }
-    {
-        let start = self.place;
-        while self.place < self.listing.len() && is_inner(self.listing[self.place]) {
-            self.place += 1;
-        }
-        &self.listing[start..self.place]
+        self.place += front_len(&self.listing[self.place..], is_blank);
     }
 }

@@ -5,7 +5,7 @@ ghost use Rattle.words.specs.Spellings.{kinds, gates, lookup};
 use crate::token::Kind;
 use machine::order::Gate;
 
-const KINDS: [(&'static [u8], Kind); 24] = [
+const KINDS: [(&[u8], Kind); 24] = [
     (b"(", Kind::Open),
     (b")", Kind::Close),
     (b"{", Kind::LeftBrace),
@@ -32,7 +32,7 @@ const KINDS: [(&'static [u8], Kind); 24] = [
     (b"one", Kind::One),
 ];
 
-const GATES: [(&'static [u8], Gate); 8] = [
+const GATES: [(&[u8], Gate); 8] = [
     (b"X", Gate::X),
     (b"Y", Gate::Y),
     (b"Z", Gate::Z),
@@ -44,23 +44,20 @@ const GATES: [(&'static [u8], Gate); 8] = [
 ];
 
 // What the table says of the bytes `text`.
-fn find<T: Copy>(table: &[(&'static [u8], T)], text: &[u8]) -> Option<T>
+fn find<T: Copy>(table: &[(&[u8], T)], text: &[u8]) -> Option<T>
     ensures { result ≡ lookup text.now (map (λ row. (row.0.now, row.1)) table.now) }
 {
-    for row in table {
-        if row.0 == text {
-            return Some(row.1);
-        }
-    }
-    None
+    table.iter().find(|row| row.0 == text).map(|row| row.1)
 }
 
+#[tactic(auto, unfolding(crate::specs::Spellings::kinds))]
 pub(crate) fn kind(text: &[u8]) -> Option<Kind>
     ensures { result ≡ lookup text.now kinds }
 {
     find(&KINDS, text)
 }
 
+#[tactic(auto, unfolding(crate::specs::Spellings::gates))]
 pub(crate) fn gate(text: &[u8]) -> Option<Gate>
     ensures { result ≡ lookup text.now gates }
 {

@@ -38,6 +38,7 @@ pub enum Kind {
     One,
 }
 
+// Not derived: its clause states the comparison by the numbers of the kinds.
 impl PartialEq for Kind {
     ghost eq = { on kind_number nat_eq };
 

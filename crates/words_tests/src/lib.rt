@@ -10,7 +10,7 @@ mod tests {
     use words::token::{Kind, Word, WordFault};
 
     // What a word is.
-    #[derive(Clone, Copy)]
+    #[derive(Clone, Copy, PartialEq)]
     enum Sort {
         Name,
         Number(u32),
@@ -21,65 +21,35 @@ mod tests {
     // What a table says of a word: what it is, its text and its place.
     type Row = (Sort, &'static [u8], usize);
 
-    fn same_sort(word: &Word, sort: Sort) -> bool {
-        match (word, sort) {
-            (Word::Name { .. }, Sort::Name) => true,
-            (Word::Number { value, .. }, Sort::Number(n)) => *value == n,
-            (Word::Gate { gate, .. }, Sort::Gate(g)) => *gate == g,
-            (Word::Fixed { kind, .. }, Sort::Fixed(k)) => *kind == k,
-            _ => false,
+    fn sort_of(word: &Word) -> Sort {
+        match word {
+            Word::Name { .. } => Sort::Name,
+            Word::Number { value, .. } => Sort::Number(*value),
+            Word::Gate { gate, .. } => Sort::Gate(*gate),
+            Word::Fixed { kind, .. } => Sort::Fixed(*kind),
         }
     }
 
     fn fits(word: &Word, row: &Row) -> bool {
-        let (text, place) = match word {
-            Word::Name { text, place } => (*text, *place),
-            Word::Number { text, place, .. } => (*text, *place),
-            Word::Gate { text, place, .. } => (*text, *place),
-            Word::Fixed { text, place, .. } => (*text, *place),
-        };
-        same_sort(word, row.0) && text == row.1 && place == row.2
+        sort_of(word) == row.0 && word.text() == row.1 && word.place() == row.2
+    }
+
+    // Whether the words are those of the table.
+    fn are(words: &[Word], rows: &[Row]) -> bool {
+        words.len() == rows.len() && words.iter().zip(rows).all(|(word, row)| fits(word, row))
     }
 
     // Whether the words of the listing are those of the table.
     fn has_words(heap: Global, listing: &[u8], rows: &[Row]) -> Result<bool, Fail> {
         let mut out = Vec::with_capacity(heap, listing.len())?;
-        if words(listing, &mut out).is_err() || out.len() != rows.len() {
-            return Ok(false);
-        }
-        for i in 0..rows.len() {
-            if !fits(&out[i], &rows[i]) {
-                return Ok(false);
-            }
-        }
-        Ok(true)
+        Ok(words(listing, &mut out).is_ok() && are(&out, rows))
     }
 
     // Whether the listing is refused for a bad word at the place.
     fn is_bad_at(heap: Global, listing: &[u8], bad: usize) -> Result<bool, Fail> {
         let mut out = Vec::with_capacity(heap, listing.len())?;
-        match words(listing, &mut out) {
-            Err(WordFault::Bad { place }) => Ok(place == bad),
-            _ => Ok(false),
-        }
-    }
-
-    fn are_names(heap: Global, names: &[&'static [u8]]) -> Result<bool, Fail> {
-        for name in names {
-            if !has_words(heap, *name, &[(Sort::Name, *name, 0)])? {
-                return Ok(false);
-            }
-        }
-        Ok(true)
-    }
-
-    fn are_bad(heap: Global, table: &[(&'static [u8], usize)]) -> Result<bool, Fail> {
-        for row in table {
-            if !is_bad_at(heap, row.0, row.1)? {
-                return Ok(false);
-            }
-        }
-        Ok(true)
+        let answer = words(listing, &mut out);
+        Ok(matches!(answer, Err(WordFault::Bad { place }) if place == bad))
     }
 
     const LISTING: &'static [u8] =
@@ -151,13 +121,17 @@ mod tests {
 
     #[test]
     fn names(rt: HostRuntime) -> Result<(), Fail> {
-        assert!(rt; are_names(rt.alloc(), &NAMES)?);
+        for name in &NAMES {
+            assert!(rt; has_words(rt.alloc(), *name, &[(Sort::Name, *name, 0)])?);
+        }
         Ok(())
     }
 
     #[test]
     fn bad_words(rt: HostRuntime) -> Result<(), Fail> {
-        assert!(rt; are_bad(rt.alloc(), &BAD)?);
+        for (listing, place) in &BAD {
+            assert!(rt; is_bad_at(rt.alloc(), *listing, *place)?);
+        }
         Ok(())
     }
 
@@ -172,9 +146,15 @@ mod tests {
         let mut out = Vec::with_capacity(rt.alloc(), 2)?;
         assert!(rt; words(b"0", &mut out).is_ok());
         assert!(rt; words(b"SWAP", &mut out).is_ok());
-        assert!(rt; out.len() == 2);
-        assert!(rt; fits(&out[0], &(Sort::Number(0), b"0", 0)));
-        assert!(rt; fits(&out[1], &(Sort::Gate(Gate::Swap), b"SWAP", 0)));
+        assert!(rt;
+            are(
+                &out,
+                &[
+                    (Sort::Number(0), b"0", 0),
+                    (Sort::Gate(Gate::Swap), b"SWAP", 0)
+                ]
+            )
+        );
         Ok(())
     }
 }

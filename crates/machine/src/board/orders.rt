@@ -1,11 +1,12 @@
-// Questions to a board, and what an accepted order does to it.
-ghost use Rattle.std.specs.Prelude.{◌≡◌, ◌<◌, true, false, None, nat_le};
+// Questions to a board, and what an order does to it.
+ghost use Rattle.std.specs.Prelude.{◌≡◌, ◌<◌, None, nat_le, MatchResult};
 ghost use Rattle.machine.specs.Boards.{seen};
-ghost use Rattle.machine.specs.Coins.{FirstFree};
-ghost use Rattle.machine.specs.Gates.{Admits, gate_question};
-ghost use Rattle.machine.specs.Model.{tally, every, Started, Does, Clears, ordered};
+ghost use Rattle.machine.specs.Coins.{FirstFree, FreeFrom};
+ghost use Rattle.machine.specs.Gates.{Admits, GateAnswer, gate_question};
+ghost use Rattle.machine.specs.Model.{tally, every, Accepted, Started, Does, Clears, ordered};
 ghost use Rattle.machine.specs.Orders.{handle_list};
-ghost use Rattle.machine.specs.declared.order.Order.TheVariants.{Prepared, Applied, Measured};
+ghost use Rattle.machine.specs.Promises.{PrepareAnswer, NotLive, IfRefused, IfAccepted};
+ghost use Rattle.machine.specs.declared.order.Order.TheVariants.{Applied, Measured};
 
 use super::Board;
 use crate::order::{Gate, Handles, Order, Refusal};
@@ -16,7 +17,7 @@ impl Board {
         ensures { Started capacity (seen result) }
     {
         Board {
-            capacity: capacity.max(1).min(64),
+            capacity: capacity.clamp(1, 64),
             used: 0,
             live: [false; 64],
             count: 0,
@@ -30,62 +31,72 @@ impl Board {
         self.capacity
     }
 
-    pub(crate) fn is_full(&self) -> bool
+    fn is_full(&self) -> bool
         ensures { result ≡ nat_le (seen self.now).capacity (tally (seen self.now).live 64) }
     {
         self.used >= self.capacity
     }
 
-    pub(crate) fn is_live(&self, handle: u8) -> bool
+    fn is_live(&self, handle: u8) -> bool
         ensures { result ≡ (seen self.now).live handle }
     {
-        handle < 64 && self.live[handle as usize]
+        self.live.get(usize::from(handle)).copied().unwrap_or(false)
     }
 
-    // The first handle that is not live, from `start` on, 0 following the greatest.
-    pub(crate) fn free_from(&self, start: u8) -> u8
-        requires low { start < (seen self.now).capacity }
-        requires room { tally (seen self.now).live 64 < (seen self.now).capacity }
-        ensures { FirstFree (seen self.now).capacity (seen self.now).live start result }
+    // Counts the order, which becomes the latest.
+    fn accept(&mut self, order: Order)
+        ensures accepted { Accepted (seen self.old) (seen self.new) order }
+        ensures live { self.new.live ≡ self.old.live }
     {
-        let mut distance = 0u8;
-        while self.is_live((start + distance) % self.capacity) {
-            distance += 1;
+        self.count = self.count.wrapping_add(1);
+        self.latest = Some(order);
+    }
+
+    // The first handle that is not live, from `start` on, 0 following the greatest; none where as many are live as the capacity.
+    fn free_from(&self, start: u8) -> Option<u8>
+        requires { start < (seen self.now).capacity }
+        ensures { FreeFrom (seen self.now) start result }
+    {
+        if self.is_full() {
+            return None;
         }
-        (start + distance) % self.capacity
+        (0..self.capacity)
+            .map(|distance| (start + distance) % self.capacity)
+            .find(|handle| !self.is_live(*handle))
     }
 
-    pub(crate) fn prepare(&mut self, handle: u8)
-        requires room { tally (seen self.old).live 64 < (seen self.old).capacity }
-        requires low { handle < 64 }
-        requires free { (seen self.old).live handle ≡ false }
-        ensures { Does (seen self.old) (ordered (Prepared handle)) (seen self.new) }
+    // Makes the first handle live that is not, from `start` on, and answers it.
+    pub(crate) fn prepare(&mut self, start: u8) -> Result<u8, Refusal>
+        requires { start < (seen self.old).capacity }
+        ensures answer { PrepareAnswer (seen self.old) (seen self.new) result }
+        ensures same { IfRefused result (self.new ≡ self.old) }
+        ensures first { IfAccepted result (λ h. FirstFree (seen self.old).capacity (seen self.old).live start h) }
     {
-        self.live[handle as usize] = true;
+        let handle = self.free_from(start).ok_or(Refusal::Full)?;
+        self.live[usize::from(handle)] = true;
         self.used += 1;
-        self.count = self.count.wrapping_add(1);
-        self.latest = Some(Order::Prepared { handle });
+        self.accept(Order::Prepared { handle });
+        Ok(handle)
     }
 
-    pub(crate) fn measure(&mut self, handle: u8, bit: bool)
-        requires { (seen self.old).live handle ≡ true }
-        ensures { Does (seen self.old) (ordered (Measured handle bit)) (seen self.new) }
+    // Measures the handle, which is live no more, with the answer `bit`.
+    pub(crate) fn measure(&mut self, handle: u8, bit: bool) -> Result<(), Refusal>
+        ensures answer { MatchResult result (λ _. Does (seen self.old) (ordered (Measured handle bit)) (seen self.new)) (λ e. NotLive (seen self.old) handle e) }
+        ensures same { IfRefused result (self.new ≡ self.old) }
     {
-        self.live[handle as usize] = false;
+        if !self.is_live(handle) {
+            return Err(Refusal::Dead);
+        }
+        self.live[usize::from(handle)] = false;
         self.used -= 1;
-        self.count = self.count.wrapping_add(1);
-        self.latest = Some(Order::Measured { handle, bit });
+        self.accept(Order::Measured { handle, bit });
+        Ok(())
     }
 
     fn all_live(&self, handles: &[u8]) -> bool
         ensures { result ≡ every (seen self.now).live handles.now }
     {
-        for h in handles {
-            if !self.is_live(*h) {
-                return false;
-            }
-        }
-        true
+        handles.iter().all(|handle| self.is_live(*handle))
     }
 
     // The handles of a gate order that is accepted, or the first question with the reply no.
@@ -98,21 +109,27 @@ impl Board {
         if !self.all_live(handles) {
             return Err(Refusal::Dead);
         }
-        if handles.len() == 1 {
-            return Ok(Handles::One(handles[0]));
+        match handles {
+            [one] => Ok(Handles::One(*one)),
+            [first, second] if first != second => Ok(Handles::Two(*first, *second)),
+            _ => Err(Refusal::Same),
         }
-        if handles[0] == handles[1] {
-            return Err(Refusal::Same);
-        }
-        Ok(Handles::Two(handles[0], handles[1]))
     }
 
     pub(crate) fn apply(&mut self, gate: Gate, handles: Handles)
         requires { gate_question gate (handle_list handles) (seen self.old).live ≡ None }
         ensures { Does (seen self.old) (ordered (Applied gate handles)) (seen self.new) }
     {
-        self.count = self.count.wrapping_add(1);
-        self.latest = Some(Order::Applied { gate, handles });
+        self.accept(Order::Applied { gate, handles });
+    }
+
+    pub(crate) fn gate(&mut self, gate: Gate, handles: &[u8]) -> Result<(), Refusal>
+        ensures answer { GateAnswer gate handles.now (seen self.old) (seen self.new) result }
+        ensures same { IfRefused result (self.new ≡ self.old) }
+    {
+        let handles = self.admit(gate, handles)?;
+        self.apply(gate, handles);
+        Ok(())
     }
 
     pub(crate) fn clear(&mut self)

@@ -2,7 +2,7 @@
 ghost use Rattle.std.specs.Prelude.{◌≡◌, ◌+◌, ◌<◌, length, take, drop};
 ghost use Rattle.words.specs.Words.{span, Next};
 
-use super::Reader;
+use super::{Reader, front_len, is_inner};
 use crate::meaning::meaning;
 use crate::token::{Word, WordFault};
 
@@ -14,13 +14,10 @@ impl<'a> Reader<'a> {
         ensures place { self.new.place ≡ self.old.place + span (drop self.old.place self.old.listing.now) }
         ensures text { result.now ≡ take (span (drop self.old.place self.old.listing.now)) (drop self.old.place self.old.listing.now) }
     {
-        let start = self.place;
-        let run = self.run();
-        if self.place > start {
-            return run;
-        }
-        self.place += 1;
-        &self.listing[start..self.place]
+        let rest = &self.listing[self.place..];
+        let count = front_len(rest, is_inner).max(1);
+        self.place += count;
+        &rest[..count]
     }
 
     // The next word, or None at the end. The place is then past the word, good or bad, or at the end.
@@ -34,9 +31,8 @@ impl<'a> Reader<'a> {
             return Ok(None);
         }
         let text = self.cut();
-        match meaning(text, place) {
-            Some(word) => Ok(Some(word)),
-            None => Err(WordFault::Bad { place }),
-        }
+        meaning(text, place)
+            .map(Some)
+            .ok_or(WordFault::Bad { place })
     }
 }

@@ -4,40 +4,44 @@ use Rattle.words.proofs.Turns.{at_first, answered, again, less, ends, breaks, fi
 use Rattle.words.proofs.lexer.words.Goals as goal
 
 pub loop-word-init : goal.loop-word-init
-loop-word-init c = (c.new-reader.ensures.listing, at_first c.args.listing.now c.new-reader.result.place (vec_items c.args.out.now) c.new-reader.ensures.place, omega arith)
+loop-word-init c = record { same = c.new-reader.ensures.listing; so_far = at_first c.args.listing.now c.new-reader.result.place (vec_items c.args.out.now) c.new-reader.ensures.place; grows = omega arith }
 
 pub returns-in_err-word : goal.returns-in_err-word
 returns-in_err-word c =
+    let i = c.loop-word.invariant in
     let p = err_from_is_err_and c.from_residual.result c.from_residual.ensures.1 in
     record {
-      words = breaks c.args.listing.now c.loop-word.reader.listing.now c.loop-word.invariant.0 c.loop-word.reader.place c.next.new.self.place (vec_items c.args.out.now) (vec_items c.loop-word.out) c.loop-word.invariant.1 _ c.in_err-word.ensures.next c.from_residual.result (p.1 ∙ ap Err p.2);
-      memory = λ m. absurd (fits c.args.listing.now c.loop-word.reader.listing.now c.loop-word.invariant.0 c.loop-word.reader.place c.next.new.self.place (vec_items c.args.out.now) (vec_items c.loop-word.out) c.loop-word.invariant.1 _ c.in_err-word.ensures.next c.from_residual.result (p.1 ∙ ap Err p.2) m);
+      words = breaks i.same c.next.new.self.place i.so_far _ c.in_err-word.ensures.next c.from_residual.result (p.1 ∙ ap Err p.2);
+      memory = λ m. absurd (fits i.same c.next.new.self.place i.so_far _ c.in_err-word.ensures.next c.from_residual.result (p.1 ∙ ap Err p.2) m);
     }
 
 pub loop-word-smaller : goal.loop-word-smaller
 loop-word-smaller c =
-    let more = less c.args.listing.now c.loop-word.reader.listing.now c.loop-word.invariant.0 c.loop-word.reader.place c.next.new.self.place (vec_items c.args.out.now) (vec_items c.loop-word.out) c.loop-word.invariant.1 c.in_ok-word.field-0 c.in-Some.word c.in-Some.is c.in_ok-word.ensures.next in
-    omega (arith, c.next.new.self.within, ap length (c.next.ensures.listing ∙ c.loop-word.invariant.0))
+    let i = c.loop-word.invariant in
+    let more = less i.same c.next.new.self.place i.so_far c.in-Some.word c.in-Some.is c.in_ok-word.ensures.next in
+    omega (arith, c.next.new.self.within, ap length (c.next.ensures.listing ∙ i.same))
 
 pub loop-word-preserved : goal.loop-word-preserved
-loop-word-preserved c = (
-  c.next.ensures.listing ∙ c.loop-word.invariant.0,
-  again c.args.listing.now c.loop-word.reader.listing.now c.loop-word.invariant.0 c.loop-word.reader.place c.next.new.self.place (vec_items c.args.out.now) (vec_items c.loop-word.out) c.loop-word.invariant.1 c.in_ok-word.field-0 c.in-Some.word (vec_items c.push.new.self) c.in-Some.is c.in_ok-word.ensures.next c.in_ok-push.ensures.items,
-  omega (arith, c.loop-word.invariant.2, c.push.ensures.capacity),
-)
+loop-word-preserved c =
+    let i = c.loop-word.invariant in
+    record {
+      same = c.next.ensures.listing ∙ i.same;
+      so_far = again i.same c.next.new.self.place i.so_far c.in-Some.word c.in-Some.is c.in_ok-word.ensures.next c.in_ok-push.ensures.items;
+      grows = omega (arith, i.grows, c.push.ensures.capacity);
+    }
 
 pub returns-in_err-push : goal.returns-in_err-push
 returns-in_err-push c =
+    let i = c.loop-word.invariant in
     let p = err_from_is_err_and c.from_residual-in_err-push.result c.from_residual-in_err-push.ensures.1 in
-    let more = less c.args.listing.now c.loop-word.reader.listing.now c.loop-word.invariant.0 c.loop-word.reader.place c.next.new.self.place (vec_items c.args.out.now) (vec_items c.loop-word.out) c.loop-word.invariant.1 c.in_ok-word.field-0 c.in-Some.word c.in-Some.is c.in_ok-word.ensures.next in
-    let room = no_room c.args.listing.now c.loop-word.reader.listing.now c.loop-word.invariant.0 c.loop-word.reader.place c.next.new.self.place (vec_items c.args.out.now) (vec_items c.loop-word.out) c.loop-word.invariant.1 c.args.out.now.cap c.loop-word.out.cap c.loop-word.invariant.2 (omega (arith, c.in_err-push.ensures.full, c.loop-word.out.ok.0)) more (omega (arith, c.next.new.self.within, ap length c.next.ensures.listing)) in
+    let more = less i.same c.next.new.self.place i.so_far c.in-Some.word c.in-Some.is c.in_ok-word.ensures.next in
+    let room = no_room i.same c.next.new.self.place i.so_far c.args.out.now.cap c.loop-word.out.cap i.grows (omega (arith, c.in_err-push.ensures.full, c.loop-word.out.ok.0)) more (omega (arith, c.next.new.self.within, ap length c.next.ensures.listing)) in
     record {
-      words = full c.args.listing.now c.loop-word.reader.listing.now c.loop-word.invariant.0 c.loop-word.reader.place c.next.new.self.place (vec_items c.args.out.now) (vec_items c.loop-word.out) c.loop-word.invariant.1 c.in_ok-word.field-0 c.in-Some.word c.in-Some.is c.in_ok-word.ensures.next (vec_items c.push.new.self) c.from_residual-in_err-push.result c.in_err-push.ensures.items (p.1 ∙ ap Err p.2);
+      words = full i.same c.next.new.self.place i.so_far c.in-Some.word c.in-Some.is c.in_ok-word.ensures.next (vec_items c.push.new.self) c.from_residual-in_err-push.result c.in_err-push.ensures.items (p.1 ∙ ap Err p.2);
       memory = λ m. omega (arith, room, c.args.out.now.ok.0);
     }
 
 pub returns : goal.returns
-returns c = record {
-  words = ends c.args.listing.now c.loop-word.reader.listing.now c.loop-word.invariant.0 c.loop-word.reader.place c.next.new.self.place (vec_items c.args.out.now) (vec_items c.loop-word.out) c.loop-word.invariant.1 c.in_ok-word.field-0 c.in_default.is c.in_ok-word.ensures.next;
-  memory = λ m. absurd (answered _ refl m);
-}
+returns c =
+    let i = c.loop-word.invariant in
+    record { words = ends i.same c.next.new.self.place i.so_far c.in_default.is c.in_ok-word.ensures.next; memory = λ m. absurd (answered _ refl m) }

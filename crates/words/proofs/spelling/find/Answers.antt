@@ -1,20 +1,13 @@
-use Rattle.std.proofs.Common.{◌≡◌, sym, refl, ◌∙◌, arith}
+use Rattle.std.proofs.Common.{◌≡◌, Bor, List, ℕ, rules, tests}
+use Rattle.std.specs.Option.{option_map}
 use Rattle.std.specs.Str.{bytes_eq}
-use Rattle.words.proofs.Lookups.{found, other, ended}
+use Rattle.std.proofs.lemmas.Iterator.{YieldsList-from_slice}
+use Rattle.std.proofs.lemmas.Iterator.Search.{find_from_yields_List}
+use Rattle.words.proofs.Lookups.{looked_up}
 use Rattle.words.proofs.spelling.find.Goals as goal
 
-pub loop-row-init : goal.loop-row-init
-loop-row-init g c = refl
-
-pub returns-then-eq : goal.returns-then-eq
-returns-then-eq g c =
-    let same : c.eq.result ≡ bytes_eq c.row-item.result.0.now c.args.text.now = c.eq.ensures in
-    sym (found c.args.text.now c.args.table.now c.loop-row.row-index c.row-item.result c.loop-row-test.true c.row-item.is (sym same ∙ c.if-eq.true)) ∙ c.loop-row.invariant
-
-pub loop-row-preserved : goal.loop-row-preserved
-loop-row-preserved g c =
-    let same : c.eq.result ≡ bytes_eq c.row-item.result.0.now c.args.text.now = c.eq.ensures in
-    sym (other c.args.text.now c.args.table.now c.loop-row.row-index c.row-item.result c.loop-row-test.true c.row-item.is (sym same ∙ c.if-eq.false)) ∙ c.loop-row.invariant
-
 pub returns : goal.returns
-returns g c = sym (ended c.args.text.now c.args.table.now c.loop-row.row-index (omega arith)) ∙ c.loop-row.invariant
+returns g c =
+    let found = find_from_yields_List (λ row. bytes_eq row.0.now c.args.text.now) _ _ c.find.result c.find.ensures.ran (YieldsList-from_slice c.args.table.now cc) (λ x r q k. search (rules, tests)) in
+    let mapped : c.map.result ≡ option_map (λ (x : Bor (Bor (List ℕ) × g.row.T.Denot)). x.now.1) c.find.result = search rules in
+    looked_up c.args.text.now c.args.table.now c.find.result c.map.result found mapped

@@ -1,19 +1,14 @@
-use Rattle.std.proofs.Common.{◌<◌, true, false, length, get_or, set, refl, arith, length-set}
-use Rattle.machine.proofs.Tally.{set_with, tally_more, tally_le}
+use Rattle.std.proofs.Common.{◌≡◌, true, false, get_or, arith, length-set, subst}
+use Rattle.machine.specs.Boards.{seen}
+use Rattle.machine.specs.Coins.{FreeFrom}
+use Rattle.machine.proofs.Tally.{set_on}
 use Rattle.machine.proofs.board.Board.prepare.Goals as goal
 
-pub overflow_add-self : goal.overflow_add-self
-overflow_add-self c = omega (arith, tally_le (λ k. get_or c.args.self.now.live k false) 64)
+pub invariant_of-self-clause-long : goal.invariant_of-self-clause-long
+invariant_of-self-clause-long c = simp (length-set c.args.self.now.live c.from.result true) c.args.self.now.long
 
-pub invariant_of-self : goal.invariant_of-self
-invariant_of-self c =
-    let few : c.args.handle < length c.args.self.now.live = omega arith in
-    let t = tally_more (λ k. get_or c.args.self.now.live k false) (λ k. get_or (set c.args.self.now.live c.args.handle true) k false) 64 c.args.handle c.requires.low c.requires.free (set_with c.args.self.now.live c.args.handle true few) in
-    record { least = c.args.self.now.least; most = c.args.self.now.most; small = omega arith; long = simp length-set c.args.self.now.long; tallied = omega arith }
-
-pub returns : goal.returns
-returns c =
-    let few : c.args.handle < length c.args.self.now.live = omega arith in (
-      record { capacity = refl; count = refl; latest = refl },
-      record { room = c.requires.room; low = c.requires.low; free = c.requires.free; live = set_with c.args.self.now.live c.args.handle true few },
-    )
+pub invariant_of-self-clause-tallied : goal.invariant_of-self-clause-tallied
+invariant_of-self-clause-tallied c =
+    let p = (subst (FreeFrom (seen c.args.self.now) c.args.start) c.in_ok-handle.ensures.ok_part c.free_from.ensures).1 in
+    let free : get_or c.args.self.now.live c.from.result false ≡ false = cc (p.free, c.from.ensures) in
+    omega (arith, set_on c.args.self.now.live c.from.result c.args.self.now.long (omega (arith, p.place, c.from.ensures)) free)

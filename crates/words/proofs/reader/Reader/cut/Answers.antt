@@ -1,30 +1,20 @@
-use Rattle.std.proofs.Common.{◌≡◌, ◌+◌, ◌-◌, take, drop, sym, ap, ◌∙◌, arith}
+use Rattle.std.proofs.Common.{◌≡◌, ◌+◌, max, take, drop, ap, ◌∙◌, arith}
+use Rattle.std.proofs.lemmas.List.{length-drop}
+use Rattle.words.specs.Bytes.{inner}
 use Rattle.words.specs.Words.{span}
-use Rattle.words.proofs.Lexing.{span_run, span_one, long_as}
+use Rattle.words.proofs.Lexing.{front_is, rest_is, span_is}
 use Rattle.words.proofs.reader.Reader.cut.Goals as goal
 
-pub returns-then-self-start : goal.returns-then-self-start
-returns-then-self-start c =
-    let at = c.args.self.now.place in
-    let bs = drop at c.args.self.now.listing.now in
-    let e = span_run bs (omega (arith, c.run-run.ensures.place)) in
-    record {
-      listing = c.run-run.ensures.listing;
-      place = c.run-run.ensures.place ∙ ap (λ n. at + n) (sym e);
-      text = long_as c.run-run.result.now bs _ _ c.run-run.ensures.text e;
-    }
-
-pub returns : goal.returns
-returns c =
-    let at = c.args.self.now.place in
+count : (c : goal.After-self-1) → c.max-count.result ≡ span (drop c.args.self.now.place c.args.self.now.listing.now)
+count c =
+    let e = c.front_len.ensures in
     let s = c.args.self.now.listing.now in
-    let p = c.run-run.new.self.place in
-    let same = c.run-run.ensures.listing in
-    let e = span_one s at c.requires (omega (arith, c.run-run.ensures.place)) in
-    let n : p + 1 ≡ at + span (drop at s) = omega (arith, c.run-run.ensures.place) in
-    let one : (p + 1) - at ≡ span (drop at s) = omega arith in
-    record {
-      listing = same;
-      place = n;
-      text = λ j. take (one j) (drop at (same j));
-    }
+    let at = c.args.self.now.place in
+    c.max-count.ensures ∙ ap (λ n. max n 1) (front_is inner s at c.front_len.result e.within e.passed e.stopped)
+    ∙ span_is (drop at s) (omega (arith, length-drop at s, c.requires))
+
+pub returns-clause-place : goal.returns-clause-place
+returns-clause-place c = ap (λ n. c.args.self.now.place + n) (count c)
+
+pub returns-clause-text : goal.returns-clause-text
+returns-clause-text c = λ i. take (count c i) (rest_is c.args.self.now.listing.now c.args.self.now.place i)

@@ -1,5 +1,0 @@
-use Rattle.words.proofs.Weaving.{words_are_parts}
-use Rattle.words.proofs.laws.words_are_parts.Goals as goal
-
-pub returns : goal.returns
-returns c = words_are_parts
