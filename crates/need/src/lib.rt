@@ -141,7 +141,7 @@ impl Costs {
 
     fn node_cost(&self, program: &Program, at: usize) -> Cost {
         match program.node(at) {
-            Node::Place => FREE,
+            Node::Place(_) => FREE,
             Node::Target(_) => FREE,
             Node::Constant(_) => STEP,
             Node::Use(_) => STEP,

@@ -3,63 +3,8 @@ ghost use Rattle.std.specs.Prelude.{◌≡◌, true};
 ghost use Rattle.rules.specs.Programs.{Falls};
 
 use crate::types::{Typed, part_at, type_at};
-use grammar::tree::{Binder, Range};
-use machine::order::Gate;
-
-// A leaf of a value.
-#[derive(Clone, Copy)]
-pub enum Leaf {
-    Unit,
-    Bit(bool),
-    Int(u32),
-    Handle(u8),
-}
-
-// What is done once the parts are values; an operation goes by its number.
-#[derive(Clone, Copy)]
-pub enum Act {
-    Tuple,
-    Meas,
-    Gate(Gate),
-    Call(usize),
-}
-
-#[derive(Clone, Copy)]
-pub enum Node {
-    // no term: a type, or a name that is bound here and whose entry this is
-    Place,
-    // a name that a set alters: its entry
-    Target(usize),
-    Constant(Leaf),
-    // a name: its entry
-    Use(usize),
-    Built {
-        act: Act,
-        parts: Range,
-    },
-    Bind {
-        binder: Binder,
-        names: Range,
-        right: usize,
-        body: usize,
-    },
-    Using {
-        names: Range,
-        body: usize,
-    },
-    If {
-        test: usize,
-        yes: usize,
-        other: usize,
-    },
-}
-
-// An operation: the node of its body, and the entries of its parameters.
-#[derive(Clone, Copy)]
-pub struct Root {
-    pub body: usize,
-    pub names: Range,
-}
+use grammar::tree::Range;
+pub use programs::program::{Act, Leaf, Node, Root};
 
 #[derive(Drop)]
 pub struct Program {
@@ -89,7 +34,7 @@ impl Program {
                 return node;
             }
         }
-        Node::Place
+        Node::Place(false)
     }
 
     // The table of parts at `at`.

@@ -39,7 +39,7 @@ impl Checker {
     // An entry for each node.
     fn fill(&mut self, tree: &Tree) -> Result<(), RuleFault> {
         for at in 0..tree.size() {
-            self.nodes.push(Node::Place)?;
+            self.nodes.push(Node::Place(false))?;
             self.places.push(tree.node(at).place)?;
             self.types.push(UNIT)?;
         }

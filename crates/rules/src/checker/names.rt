@@ -104,7 +104,7 @@ impl Checker {
         typed: Typed,
         settable: bool,
     ) -> Result<(), RuleFault> {
-        self.put(entry, Node::Place, typed);
+        self.put(entry, Node::Place(settable), typed);
         self.scope.push(Binding {
             name,
             entry,

@@ -37,7 +37,7 @@ impl Checker {
     pub(super) fn written(&mut self, tree: &Tree, at: usize) -> Result<(), RuleFault> {
         let node = tree.node(at);
         match node.construct {
-            Construct::BasicType(b) => self.put(at, Node::Place, basic(b)),
+            Construct::BasicType(b) => self.put(at, Node::Place(false), basic(b)),
             Construct::TupleType(parts) => {
                 let mut part = parts.end;
                 while parts.first < part {
@@ -48,7 +48,7 @@ impl Checker {
                     }
                 }
                 let typed = self.tuple_of(tree, parts, node.place)?;
-                self.put(at, Node::Place, typed);
+                self.put(at, Node::Place(false), typed);
             }
             _ => {}
         }
