@@ -2,17 +2,34 @@
 ghost use Rattle.std.specs.Prelude.{◌≡◌, true};
 ghost use Rattle.rules.specs.Programs.{Falls};
 
-use crate::types::{Typed, part_at, type_at};
+use crate::types::{Typed, UNIT};
 use grammar::tree::Range;
 pub use programs::program::{Act, Leaf, Node, Root};
 
+// A node with the place of its first word and its type.
+#[derive(Clone, Copy)]
+pub(crate) struct Entry {
+    pub(crate) place: usize,
+    pub(crate) node: Node,
+    pub(crate) typed: Typed,
+}
+
+// What a look past the end gives.
+const NO_ENTRY: Entry = Entry {
+    place: 0,
+    node: Node::Place(false),
+    typed: UNIT,
+};
+
+const NO_ROOT: Root = Root {
+    body: 0,
+    names: Range { first: 0, end: 0 },
+};
+
 #[derive(Drop)]
 pub struct Program {
-    pub(crate) nodes: Vec<Node>,
+    pub(crate) entries: Vec<Entry>,
     pub(crate) parts: Vec<usize>,
-    // the place of the first word of each node
-    pub(crate) places: Vec<usize>,
-    pub(crate) types: Vec<Typed>,
     pub(crate) roots: Vec<Root>,
     pub(crate) run: usize,
     pub(crate) run_place: usize,
@@ -21,46 +38,34 @@ pub struct Program {
 impl Program {
     // How many nodes there are.
     pub fn size(&self) -> usize {
-        self.nodes.len()
+        self.entries.len()
     }
 
     // The node at `at`, or a place where there is none; what it names by number stands before it.
     pub fn node(&self, at: usize) -> Node
         ensures { Falls at result }
     {
-        if at < self.nodes.len() {
-            let node = self.nodes[at];
-            if falls(at, node) {
-                return node;
-            }
-        }
-        Node::Place(false)
+        let node = self.entry(at).node;
+        if falls(at, node) { node } else { NO_ENTRY.node }
     }
 
     // The table of parts at `at`.
     pub fn part(&self, at: usize) -> usize {
-        part_at(self.parts.as_slice(), at)
+        self.parts.get(at).copied().unwrap_or(0)
     }
 
     // The place of the first word of the node at `at`.
     pub fn place(&self, at: usize) -> usize {
-        part_at(self.places.as_slice(), at)
+        self.entry(at).place
     }
 
     // The type of the node at `at`.
     pub fn typed(&self, at: usize) -> Typed {
-        type_at(self.types.as_slice(), at)
+        self.entry(at).typed
     }
 
     pub fn root(&self, f: usize) -> Root {
-        if f < self.roots.len() {
-            self.roots[f]
-        } else {
-            Root {
-                body: 0,
-                names: Range { first: 0, end: 0 },
-            }
-        }
+        self.roots.get(f).copied().unwrap_or(NO_ROOT)
     }
 
     // The node of the term to run.
@@ -72,6 +77,10 @@ impl Program {
     pub fn run_place(&self) -> usize {
         self.run_place
     }
+
+    fn entry(&self, at: usize) -> Entry {
+        self.entries.get(at).copied().unwrap_or(NO_ENTRY)
+    }
 }
 
 // Do the terms that a node names by their nodes stand before it?
@@ -79,13 +88,8 @@ fn falls(at: usize, node: Node) -> bool
     ensures { result ≡ true → Falls at node }
 {
     match node {
-        Node::Bind {
-            binder: _,
-            names: _,
-            right,
-            body,
-        } => right < at && body < at,
-        Node::Using { names: _, body } => body < at,
+        Node::Bind { right, body, .. } => right < at && body < at,
+        Node::Using { body, .. } => body < at,
         Node::If { test, yes, other } => test < at && yes < at && other < at,
         _ => true,
     }

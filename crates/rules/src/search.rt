@@ -85,31 +85,31 @@ impl Named for Node {
     }
 }
 
-fn is_name(src: &[u8], place: usize, span: usize, name: &[u8]) -> bool
-    ensures { result ≡ bytes_eq (part src.now place span) name.now }
+// The bytes from a place on, cut off at the listing's end.
+fn cut(src: &[u8], place: usize, span: usize) -> &[u8]
+    ensures { result.now ≡ part src.now place span }
 {
-    let from = place.min(src.len());
-    let to = from + span.min(src.len() - from);
-    &src[from..to] == name
+    let rest = src.get(place..).unwrap_or(&[]);
+    rest.get(..span).unwrap_or(rest)
 }
 
 // The bytes of a name.
 pub fn text_of(src: &[u8], name: Name) -> &[u8]
     ensures { result.now ≡ part src.now name.place name.span }
 {
-    let from = name.place.min(src.len());
-    let to = from + name.span.min(src.len() - from);
-    &src[from..to]
+    cut(src, name.place, name.span)
+}
+
+// Has an entry this name?
+fn is_named<E: Named>(entry: &E, src: &[u8], name: &[u8]) -> bool
+    ensures { result ≡ bytes_eq (part src.now (E.starts entry.now) (E.spans entry.now)) name.now }
+{
+    cut(src, entry.place(), entry.span()) == name
 }
 
 // The first entry whose name has these bytes.
 pub fn find<E: Named>(entries: &[E], src: &[u8], name: &[u8]) -> Option<usize>
     ensures { result ≡ seek 0 name.now (map (λ e. part src.now (E.starts e) (E.spans e)) entries.now) }
 {
-    for (i, e) in entries.iter().enumerate() {
-        if is_name(src, e.place(), e.span(), name) {
-            return Some(i);
-        }
-    }
-    None
+    entries.iter().position(|entry| is_named(entry, src, name))
 }
