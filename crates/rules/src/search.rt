@@ -19,6 +19,7 @@ pub trait Named {
         ensures { result ≡ spans self.now };
 }
 
+// The impls differ in the path to the name alone; a macro of the repository may not write an `impl`.
 impl Named for Operation {
     ghost starts = { λ o. o.name.place };
 

@@ -1,6 +1,6 @@
 // The table of types: an entry for each node of the tree.
 use crate::program::Entry;
-use grammar::tree::{Basic, Range};
+use grammar::tree::{Basic, PAIR_END, Range};
 
 // The most leaves of a type.
 pub const LEAVES: usize = 8;
@@ -45,6 +45,16 @@ pub const QBIT: Typed = Typed {
     shape: Type::Qbit,
     leaves: 1,
     qbits: 1,
+};
+
+// The pair of the type qbit.
+pub const PAIR: Typed = Typed {
+    shape: Type::Tuple(Range {
+        first: 0,
+        end: PAIR_END,
+    }),
+    leaves: 2,
+    qbits: 2,
 };
 
 impl From<Basic> for Typed {
@@ -103,10 +113,10 @@ impl Types<'_> {
     #[cycle(type_equality)]
     fn equal(&self, a: usize, b: usize, left: usize) -> bool {
         match (self.at(a).shape, self.at(b).shape) {
-            (Type::Unit, Type::Unit) => true,
-            (Type::Bit, Type::Bit) => true,
-            (Type::Int, Type::Int) => true,
-            (Type::Qbit, Type::Qbit) => true,
+            (Type::Unit, Type::Unit)
+            | (Type::Bit, Type::Bit)
+            | (Type::Int, Type::Int)
+            | (Type::Qbit, Type::Qbit) => true,
             (Type::Tuple(these), Type::Tuple(those)) => self.equal_parts(these, those, left),
             _ => false,
         }
@@ -115,13 +125,12 @@ impl Types<'_> {
     // Are two tuples' parts equal at each place? Each part has fewer leaves than the tuple.
     #[cycle(type_equality)]
     fn equal_parts(&self, these: Range, those: Range, left: usize) -> bool {
+        let these = within(self.parts, these);
+        let those = within(self.parts, those);
         if these.len() != those.len() {
             return false;
         }
-        for (a, b) in within(self.parts, these)
-            .iter()
-            .zip(within(self.parts, those))
-        {
+        for (a, b) in these.iter().zip(those) {
             let leaves = self.at(*a).leaves;
             if leaves >= left || !self.equal(*a, *b, leaves) {
                 return false;

@@ -26,10 +26,7 @@ impl<'a> Walk<'a> {
     fn ask_parameters(&mut self, operation: Operation) -> Result<(), RuleFault> {
         let parameters = self.parameters(operation);
         for (i, parameter) in parameters.iter().enumerate() {
-            let name = parameter.name;
-            if !self.is_new(name) || self.find(&parameters[..i], name).is_some() {
-                return Err(RuleFault::Taken { place: name.place });
-            }
+            self.ask_new(&parameters[..i], parameter.name)?;
             self.written(parameter.written)?;
         }
         Ok(())

@@ -2,11 +2,16 @@
 use super::{Binding, Checker, Walk};
 use crate::fault::RuleFault;
 use crate::program::Node;
-use crate::search::name_of;
-use crate::types::{QBIT, Typed};
-use grammar::tree::{Binder, Name, Range};
+use crate::search::{Named, name_of};
+use crate::types::{QBIT, Typed, within};
+use grammar::tree::{self, Binder, Name, Range};
 
 impl Walk<'_> {
+    // The name of a node of a pattern.
+    fn name(&self, at: usize) -> Name {
+        name_of(self.tree.node(at))
+    }
+
     // A name in scope, with its place there.
     fn bound(&self, name: Name) -> Option<(usize, Binding)> {
         let at = self.find(self.checker.scope.as_slice(), name)?;
@@ -14,55 +19,44 @@ impl Walk<'_> {
         Some((at, *binding))
     }
 
-    // Is a bound name no operation and no name in scope?
-    pub(super) fn is_new(&self, name: Name) -> bool {
-        self.find(self.tree.operations(), name).is_none() && self.bound(name).is_none()
-    }
-
-    // Is a name of a pattern one of those before it?
-    fn is_repeated(&self, names: Range, at: usize, name: Name) -> bool {
-        match self.tree.nodes().get(names.first..at) {
-            Some(before) => self.find(before, name).is_some(),
-            None => false,
+    // A bound name is no operation, no name in scope and none of those before it.
+    pub(super) fn ask_new<E: Named>(&self, before: &[E], name: Name) -> Result<(), RuleFault> {
+        if self.find(self.tree.operations(), name).is_some()
+            || self.bound(name).is_some()
+            || self.find(before, name).is_some()
+        {
+            return Err(RuleFault::Taken { place: name.place });
         }
+        Ok(())
     }
 
     // The names of a pattern are new, or those of a set may be set.
     pub(super) fn ask_names(&mut self, binder: Binder, names: Range) -> Result<(), RuleFault> {
-        match binder {
-            Binder::Set => self.ask_set(names),
-            _ => self.ask_new(names),
-        }
-    }
-
-    // The names of a pattern are new.
-    pub(super) fn ask_new(&self, names: Range) -> Result<(), RuleFault> {
         for at in names.numbers() {
-            let name = name_of(self.tree.node(at));
-            if !self.is_new(name) || self.is_repeated(names, at, name) {
-                return Err(RuleFault::Taken { place: name.place });
+            let before = within(self.tree.nodes(), Range { end: at, ..names });
+            match binder {
+                Binder::Set => self.ask_set(before, at)?,
+                _ => self.ask_new(before, self.name(at))?,
             }
         }
         Ok(())
     }
 
-    // The names of a set pattern are different, in scope, and bound by mut.
-    fn ask_set(&mut self, names: Range) -> Result<(), RuleFault> {
-        for at in names.numbers() {
-            let name = name_of(self.tree.node(at));
-            let place = name.place;
-            if self.is_repeated(names, at, name) {
-                return Err(RuleFault::Taken { place });
-            }
-            let Some((_, binding)) = self.bound(name) else {
-                return Err(RuleFault::Unknown { place });
-            };
-            if !binding.settable {
-                return Err(RuleFault::Fixed { place });
-            }
-            let typed = self.type_at(binding.entry);
-            self.checker.put(at, Node::Target(binding.entry), typed);
+    // A set name is none of those before it, in scope, and bound by mut.
+    fn ask_set(&mut self, before: &[tree::Node], at: usize) -> Result<(), RuleFault> {
+        let name = self.name(at);
+        let place = name.place;
+        if self.find(before, name).is_some() {
+            return Err(RuleFault::Taken { place });
         }
+        let Some((_, binding)) = self.bound(name) else {
+            return Err(RuleFault::Unknown { place });
+        };
+        if !binding.settable {
+            return Err(RuleFault::Fixed { place });
+        }
+        let typed = self.type_at(binding.entry);
+        self.checker.put(at, Node::Target(binding.entry), typed);
         Ok(())
     }
 
@@ -104,7 +98,7 @@ impl Walk<'_> {
     // The names of a using come into scope as qbits.
     pub(super) fn bind_qbits(&mut self, names: Range) -> Result<(), RuleFault> {
         for at in names.numbers() {
-            self.bind(name_of(self.tree.node(at)), at, QBIT, false)?;
+            self.bind(self.name(at), at, QBIT, false)?;
         }
         Ok(())
     }
@@ -116,30 +110,20 @@ impl Walk<'_> {
         names: Range,
         right: usize,
     ) -> Result<(), RuleFault> {
-        let typed = self.type_at(right);
-        match binder {
-            Binder::Let => self.bind_pattern(names, typed, false),
-            Binder::Mut => self.bind_pattern(names, typed, true),
-            Binder::Set => Ok(()),
+        if matches!(binder, Binder::Set) {
+            return Ok(());
         }
-    }
-
-    fn bind_pattern(
-        &mut self,
-        names: Range,
-        typed: Typed,
-        settable: bool,
-    ) -> Result<(), RuleFault> {
+        let settable = matches!(binder, Binder::Mut);
+        let typed = self.type_at(right);
         if names.len() == 1 {
-            let name = name_of(self.tree.node(names.first));
-            return self.bind(name, names.first, typed, settable);
+            return self.bind(self.name(names.first), names.first, typed, settable);
         }
         let Some(parts) = typed.parts() else {
             return Ok(());
         };
         for (at, part) in names.numbers().zip(self.parts_of(parts).iter().rev()) {
             let typed = self.type_at(*part);
-            self.bind(name_of(self.tree.node(at)), at, typed, settable)?;
+            self.bind(self.name(at), at, typed, settable)?;
         }
         Ok(())
     }
@@ -218,12 +202,11 @@ impl Checker {
 
     // Are the names below `outside` that were spent from `start` to `middle` those that were spent from there on?
     pub(super) fn spent_alike(&self, start: usize, middle: usize, outside: usize) -> bool {
+        let outer = |at: &&usize| **at < outside;
         let spent = |at: &usize| self.scope.get(*at).is_some_and(|binding| binding.spent);
-        let first = self.trail.iter().take(middle).skip(start);
-        let second = self.trail.iter().skip(middle);
-        let mut outer = self.trail.iter().skip(start).filter(|at| **at < outside);
-        outer.all(spent)
-            && first.filter(|at| **at < outside).count()
-                == second.filter(|at| **at < outside).count()
+        let first = self.trail.iter().take(middle).skip(start).filter(outer);
+        let second = self.trail.iter().skip(middle).filter(outer);
+        let mut both = self.trail.iter().skip(start).filter(outer);
+        both.all(spent) && first.count() == second.count()
     }
 }

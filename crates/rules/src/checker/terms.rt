@@ -4,8 +4,8 @@ ghost use Rattle.std.specs.Prelude.{◌<◌};
 use super::Walk;
 use crate::fault::RuleFault;
 use crate::program::{Act, Leaf, Node};
-use crate::types::{BIT, INT, LEAVES, QBIT, Type, Typed, UNIT};
-use grammar::tree::{Binder, Constant, Construct, Form, Name, Operation, PAIR_END, Range};
+use crate::types::{BIT, INT, LEAVES, PAIR, QBIT, Type, Typed, UNIT};
+use grammar::tree::{Binder, Constant, Construct, Form, Name, Operation, Range};
 
 impl Walk<'_> {
     // The type of a tuple of the parts in a range: at most 8 leaves.
@@ -161,12 +161,12 @@ impl Walk<'_> {
     fn arguments_fit(&self, operation: Operation, parts: Range) -> bool {
         let parameters = self.parameters(operation);
         let arguments = self.parts_of(parts);
+        let written = parameters.iter().map(|parameter| parameter.written);
         let types = self.types();
         arguments.len() == parameters.len()
-            && parameters.iter().zip(arguments.iter().rev()).all(|(parameter, argument)| types.same(
-                *argument,
-                parameter.written,
-            ))
+            && written
+                .zip(arguments.iter().rev())
+                .all(|(to, at)| types.same(*at, to))
     }
 
     #[cycle(terms)]
@@ -218,7 +218,7 @@ impl Walk<'_> {
     fn using_term(&mut self, at: usize, names: Range, body: usize) -> Result<(), RuleFault>
         requires { body < at }
     {
-        self.ask_new(names)?;
+        self.ask_names(Binder::Let, names)?;
         let start = self.checker.scope.len();
         self.bind_qbits(names)?;
         self.term(body)?;
@@ -260,15 +260,5 @@ impl Walk<'_> {
 
 // The type of a gate on one qubit or on two.
 fn gate_type(width: usize) -> Typed {
-    if width == 1 {
-        return QBIT;
-    }
-    Typed {
-        shape: Type::Tuple(Range {
-            first: 0,
-            end: PAIR_END,
-        }),
-        leaves: 2,
-        qbits: 2,
-    }
+    if width == 1 { QBIT } else { PAIR }
 }
