@@ -96,8 +96,9 @@ pub struct Costs {
 impl Costs {
     // Room for the costs of up to `size` nodes.
     pub fn room(heap: Global, size: usize) -> Result<Costs, AllocError> {
-        let table = Vec::with_capacity(heap, size)?;
-        Ok(Costs { table })
+        Ok(Costs {
+            table: Vec::with_capacity(heap, size)?,
+        })
     }
 
     fn cost(&self, at: usize) -> Cost {

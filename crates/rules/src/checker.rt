@@ -53,15 +53,11 @@ pub struct Checker {
 impl Checker {
     // A checker with room for a tree of up to `size` nodes.
     pub fn room(heap: Global, size: usize) -> Result<Checker, AllocError> {
-        let entries = Vec::with_capacity(heap, size)?;
-        let roots = Vec::with_capacity(heap, size)?;
-        let scope = Vec::with_capacity(heap, size)?;
-        let trail = Vec::with_capacity(heap, size)?;
         Ok(Checker {
-            entries,
-            roots,
-            scope,
-            trail,
+            entries: Vec::with_capacity(heap, size)?,
+            roots: Vec::with_capacity(heap, size)?,
+            scope: Vec::with_capacity(heap, size)?,
+            trail: Vec::with_capacity(heap, size)?,
             floor: 0,
             above: 0,
         })

@@ -1,6 +1,5 @@
 // One search for every kind of entry that carries a name.
 ghost use Rattle.std.specs.Prelude.{◌≡◌, ℕ, map};
-ghost use Rattle.std.specs.Str.{bytes_eq};
 ghost use Rattle.rules.specs.Names.{part, seek};
 ghost use Rattle.rules.specs.Nodes.{named};
 
@@ -19,7 +18,7 @@ pub trait Named {
         ensures { result ≡ spans self.now };
 }
 
-// The impls differ in the path to the name alone; a macro of the repository may not write an `impl`.
+// The impls differ in the path to the name alone: a trait for the path would be as long, and no macro of the repository may write an `impl`.
 impl Named for Operation {
     ghost starts = { λ o. o.name.place };
 
@@ -86,31 +85,24 @@ impl Named for Node {
     }
 }
 
-// The bytes from a place on, cut off at the listing's end.
-fn cut(src: &[u8], place: usize, span: usize) -> &[u8]
-    ensures { result.now ≡ part src.now place span }
+// The bytes of an entry's name, cut off at the listing's end.
+fn text<'a, E: Named>(src: &'a [u8], entry: &E) -> &'a [u8]
+    ensures { result.now ≡ part src.now (E.starts entry.now) (E.spans entry.now) }
 {
-    let rest = src.get(place..).unwrap_or(&[]);
-    rest.get(..span).unwrap_or(rest)
+    let rest = src.get(entry.place()..).unwrap_or(&[]);
+    rest.get(..entry.span()).unwrap_or(rest)
 }
 
 // The bytes of a name.
 pub fn text_of(src: &[u8], name: Name) -> &[u8]
     ensures { result.now ≡ part src.now name.place name.span }
 {
-    cut(src, name.place, name.span)
-}
-
-// Has an entry this name?
-fn is_named<E: Named>(entry: &E, src: &[u8], name: &[u8]) -> bool
-    ensures { result ≡ bytes_eq (part src.now (E.starts entry.now) (E.spans entry.now)) name.now }
-{
-    cut(src, entry.place(), entry.span()) == name
+    text(src, &name)
 }
 
 // The first entry whose name has these bytes.
 pub fn find<E: Named>(entries: &[E], src: &[u8], name: &[u8]) -> Option<usize>
     ensures { result ≡ seek 0 name.now (map (λ e. part src.now (E.starts e) (E.spans e)) entries.now) }
 {
-    entries.iter().position(|entry| is_named(entry, src, name))
+    entries.iter().position(|entry| text(src, entry) == name)
 }
