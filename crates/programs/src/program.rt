@@ -71,12 +71,12 @@ pub struct Root {
 }
 
 // What a look past the end gives.
-const NO_NODE: Placed = Placed {
+pub const NO_NODE: Placed = Placed {
     place: 0,
     node: Node::Place(false),
 };
 
-const NO_ROOT: Root = Root {
+pub const NO_ROOT: Root = Root {
     body: 0,
     names: Range { first: 0, end: 0 },
 };
@@ -95,13 +95,10 @@ impl Program {
     pub fn room(heap: Global, size: usize) -> Result<Program, AllocError>
         ensures { IfOk result (λ p. Fresh size p) }
     {
-        let nodes = Vec::with_capacity(heap, size)?;
-        let parts = Vec::with_capacity(heap, size)?;
-        let roots = Vec::with_capacity(heap, size)?;
         Ok(Program {
-            nodes,
-            parts,
-            roots,
+            nodes: Vec::with_capacity(heap, size)?,
+            parts: Vec::with_capacity(heap, size)?,
+            roots: Vec::with_capacity(heap, size)?,
             run: 0,
             run_place: 0,
         })

@@ -66,7 +66,7 @@ impl Checker {
     // The node at `at` is this, and has this type.
     fn put(&mut self, at: usize, node: Node, typed: Typed) {
         if let Some(entry) = self.entries.get_mut(at) {
-            entry.node = node;
+            entry.placed.node = node;
             entry.typed = typed;
         }
     }

@@ -3,27 +3,20 @@ ghost use Rattle.std.specs.Prelude.{◌≡◌, true};
 ghost use Rattle.rules.specs.Programs.{Falls};
 
 use crate::types::{Typed, UNIT};
-use grammar::tree::Range;
+use programs::program::{NO_NODE, NO_ROOT, Placed};
 pub use programs::program::{Act, Leaf, Node, Root};
 
-// A node with the place of its first word and its type.
+// A node with its type.
 #[derive(Clone, Copy)]
 pub(crate) struct Entry {
-    pub(crate) place: usize,
-    pub(crate) node: Node,
+    pub(crate) placed: Placed,
     pub(crate) typed: Typed,
 }
 
 // What a look past the end gives.
 const NO_ENTRY: Entry = Entry {
-    place: 0,
-    node: Node::Place(false),
+    placed: NO_NODE,
     typed: UNIT,
-};
-
-const NO_ROOT: Root = Root {
-    body: 0,
-    names: Range { first: 0, end: 0 },
 };
 
 #[derive(Drop)]
@@ -45,8 +38,8 @@ impl Program {
     pub fn node(&self, at: usize) -> Node
         ensures { Falls at result }
     {
-        let node = self.entry(at).node;
-        if falls(at, node) { node } else { NO_ENTRY.node }
+        let node = self.entry(at).placed.node;
+        if falls(at, node) { node } else { NO_NODE.node }
     }
 
     // The table of parts at `at`.
@@ -56,7 +49,7 @@ impl Program {
 
     // The place of the first word of the node at `at`.
     pub fn place(&self, at: usize) -> usize {
-        self.entry(at).place
+        self.entry(at).placed.place
     }
 
     // The type of the node at `at`.

@@ -4,14 +4,18 @@ use crate::fault::RuleFault;
 use crate::program::{Entry, Node, Root};
 use crate::types::{UNIT, within};
 use grammar::tree::{Operation, Parameter, QBIT};
+use programs::program::Placed;
 
 impl<'a> Walk<'a> {
     // An entry for each node.
     fn fill(&mut self) -> Result<(), RuleFault> {
         for node in self.tree.nodes() {
-            self.checker.entries.push(Entry {
+            let placed = Placed {
                 place: node.place,
                 node: Node::Place(false),
+            };
+            self.checker.entries.push(Entry {
+                placed,
                 typed: UNIT,
             })?;
         }

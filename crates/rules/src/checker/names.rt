@@ -158,7 +158,7 @@ impl Walk<'_> {
 
     // Has a part of a right side the type of the name that it sets?
     fn fits_target(&self, at: usize, part: usize) -> bool {
-        match self.checker.entries.get(at).map(|entry| entry.node) {
+        match self.checker.entries.get(at).map(|entry| entry.placed.node) {
             Some(Node::Target(entry)) => self.types().same(part, entry),
             _ => false,
         }
