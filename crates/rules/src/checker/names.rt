@@ -30,42 +30,41 @@ impl Walk<'_> {
         Ok(())
     }
 
-    // The names of a pattern are new, or those of a set may be set.
-    pub(super) fn ask_names(&mut self, binder: Binder, names: Range) -> Result<(), RuleFault> {
+    // The names of a pattern that stand before one of them.
+    fn before(&self, names: Range, at: usize) -> &[tree::Node] {
+        within(self.tree.nodes(), Range { end: at, ..names })
+    }
+
+    // The names of a pattern are new.
+    pub(super) fn ask_all_new(&self, names: Range) -> Result<(), RuleFault> {
         for at in names.numbers() {
-            let before = within(self.tree.nodes(), Range { end: at, ..names });
-            match binder {
-                Binder::Set => self.ask_set(before, at)?,
-                _ => self.ask_new(before, self.name(at))?,
-            }
+            self.ask_new(self.before(names, at), self.name(at))?;
         }
         Ok(())
     }
 
-    // A set name is none of those before it, in scope, and bound by mut.
-    fn ask_set(&mut self, before: &[tree::Node], at: usize) -> Result<(), RuleFault> {
-        let name = self.name(at);
-        let place = name.place;
-        if self.find(before, name).is_some() {
-            return Err(RuleFault::Taken { place });
+    // The names of a set are different, in scope, and bound by mut.
+    pub(super) fn ask_set(&mut self, names: Range) -> Result<(), RuleFault> {
+        for at in names.numbers() {
+            let name = self.name(at);
+            let place = name.place;
+            if self.find(self.before(names, at), name).is_some() {
+                return Err(RuleFault::Taken { place });
+            }
+            let (_, binding) = self.bound(name).ok_or(RuleFault::Unknown { place })?;
+            if !binding.settable {
+                return Err(RuleFault::Fixed { place });
+            }
+            let typed = self.type_at(binding.entry);
+            self.checker.put(at, Node::Target(binding.entry), typed);
         }
-        let Some((_, binding)) = self.bound(name) else {
-            return Err(RuleFault::Unknown { place });
-        };
-        if !binding.settable {
-            return Err(RuleFault::Fixed { place });
-        }
-        let typed = self.type_at(binding.entry);
-        self.checker.put(at, Node::Target(binding.entry), typed);
         Ok(())
     }
 
     // A name is used.
     pub(super) fn use_name(&mut self, node: usize, name: Name) -> Result<(), RuleFault> {
         let place = name.place;
-        let Some((at, binding)) = self.bound(name) else {
-            return Err(RuleFault::Unknown { place });
-        };
+        let (at, binding) = self.bound(name).ok_or(RuleFault::Unknown { place })?;
         let typed = self.type_at(binding.entry);
         if typed.is_linear() {
             if binding.spent {

@@ -114,9 +114,8 @@ impl Walk<'_> {
     // The operation that a called name means, one that stands above.
     fn called(&self, name: Name) -> Result<usize, RuleFault> {
         let place = name.place;
-        let Some(f) = self.find(self.tree.operations(), name) else {
-            return Err(RuleFault::Unknown { place });
-        };
+        let found = self.find(self.tree.operations(), name);
+        let f = found.ok_or(RuleFault::Unknown { place })?;
         if f >= self.checker.above {
             return Err(RuleFault::Below { place });
         }
@@ -148,9 +147,8 @@ impl Walk<'_> {
     // The type of a call whose arguments have the types of the parameters.
     fn call_type(&self, at: usize, f: usize, parts: Range) -> Result<Typed, RuleFault> {
         let place = self.place(at);
-        let Some(operation) = self.tree.operations().get(f) else {
-            return Err(RuleFault::Unknown { place });
-        };
+        let operation = self.tree.operations().get(f);
+        let operation = operation.ok_or(RuleFault::Unknown { place })?;
         if !self.arguments_fit(*operation, parts) {
             return Err(RuleFault::Misfit { place });
         }
@@ -181,7 +179,10 @@ impl Walk<'_> {
         requires right { right < at }
         requires body { body < at }
     {
-        self.ask_names(binder, names)?;
+        match binder {
+            Binder::Set => self.ask_set(names)?,
+            _ => self.ask_all_new(names)?,
+        }
         self.right_side(binder, right)?;
         if !self.fits(binder, names, right) {
             let place = self.place(at);
@@ -218,7 +219,7 @@ impl Walk<'_> {
     fn using_term(&mut self, at: usize, names: Range, body: usize) -> Result<(), RuleFault>
         requires { body < at }
     {
-        self.ask_names(Binder::Let, names)?;
+        self.ask_all_new(names)?;
         let start = self.checker.scope.len();
         self.bind_qbits(names)?;
         self.term(body)?;
