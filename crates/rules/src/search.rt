@@ -89,8 +89,8 @@ impl Named for Node {
 fn text<'a, E: Named>(src: &'a [u8], entry: &E) -> &'a [u8]
     ensures { result.now ≡ part src.now (E.starts entry.now) (E.spans entry.now) }
 {
-    let rest = src.get(entry.place()..).unwrap_or(&[]);
-    rest.get(..entry.span()).unwrap_or(rest)
+    let rest = &src[entry.place().min(src.len())..];
+    &rest[..entry.span().min(rest.len())]
 }
 
 // The bytes of a name.
