@@ -46,12 +46,7 @@ const FREE: Cost = Cost {
 };
 
 // One step of its own.
-const STEP: Cost = Cost {
-    steps: 1,
-    gain: 0,
-    loss: 0,
-    peak: 0,
-};
+const STEP: Cost = Cost { steps: 1, ..FREE };
 
 impl Cost {
     // This, and then a further piece.
@@ -82,6 +77,16 @@ impl Cost {
     }
 }
 
+// A step that prepares so many qbits.
+fn prepare(qbits: usize) -> Cost {
+    let gain = qbits as u64;
+    Cost {
+        gain,
+        peak: gain,
+        ..STEP
+    }
+}
+
 // The costs of the nodes, in their order.
 #[derive(Drop)]
 pub struct Costs {
@@ -91,68 +96,37 @@ pub struct Costs {
 impl Costs {
     // Room for the costs of up to `size` nodes.
     pub fn room(heap: Global, size: usize) -> Result<Costs, AllocError> {
-        let table = Vec::with_capacity(heap, size)?;
-        Ok(Costs { table })
+        Ok(Costs {
+            table: Vec::with_capacity(heap, size)?,
+        })
     }
 
     fn cost(&self, at: usize) -> Cost {
-        if at < self.table.len() {
-            self.table[at]
-        } else {
-            FREE
-        }
+        self.table.get(at).copied().unwrap_or(FREE)
     }
 
     // The parts in running order, from left to right.
     fn parts(&self, program: &Program, parts: Range) -> Cost {
-        let mut cost = STEP;
-        let mut at = parts.end;
-        while parts.first < at {
-            at -= 1;
-            cost = cost.then(self.cost(program.part(at)));
-        }
-        cost
+        let costs = parts.numbers().rev().map(|at| self.cost(program.part(at)));
+        costs.fold(STEP, Cost::then)
     }
 
     fn built(&self, program: &Program, act: Act, parts: Range) -> Cost {
         let cost = self.parts(program, parts);
         match act {
             Act::Call(f) => cost.then(self.cost(program.root(f).body)),
-            Act::Meas => cost.then(Cost {
-                steps: 0,
-                gain: 0,
-                loss: 1,
-                peak: 0,
-            }),
+            Act::Meas => cost.then(Cost { loss: 1, ..FREE }),
             _ => cost,
         }
     }
 
-    fn using_cost(&self, names: Range, body: usize) -> Cost {
-        let prepared = names.end.saturating_sub(names.first) as u64;
-        let cost = Cost {
-            steps: 1,
-            gain: prepared,
-            loss: 0,
-            peak: prepared,
-        };
-        cost.then(self.cost(body))
-    }
-
     fn node_cost(&self, program: &Program, at: usize) -> Cost {
         match program.node(at) {
-            Node::Place => FREE,
-            Node::Target(_) => FREE,
-            Node::Constant(_) => STEP,
-            Node::Use(_) => STEP,
+            Node::Place(_) | Node::Target(_) => FREE,
+            Node::Constant(_) | Node::Use(_) => STEP,
             Node::Built { act, parts } => self.built(program, act, parts),
-            Node::Bind {
-                binder: _,
-                names: _,
-                right,
-                body,
-            } => STEP.then(self.cost(right)).then(self.cost(body)),
-            Node::Using { names, body } => self.using_cost(names, body),
+            Node::Bind { right, body, .. } => STEP.then(self.cost(right)).then(self.cost(body)),
+            Node::Using { names, body } => prepare(names.len()).then(self.cost(body)),
             Node::If { test, yes, other } => {
                 let branch = self.cost(yes).either(self.cost(other));
                 STEP.then(self.cost(test)).then(branch)

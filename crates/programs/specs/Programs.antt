@@ -1,6 +1,7 @@
 -- The tables of a program, and how they grow.
-use Rattle.std.specs.Prelude.{◌≡◌, ℕ, ◌≤◌, false, List, [], ◌∷◌, ◌++◌, length, Ok, Err, vec_items, vec_capacity, Result}
+use Rattle.std.specs.Prelude.{◌≡◌, ℕ, ◌≤◌, false, List, [], ◌∷◌, ◌++◌, length, Ok, Err, vec_items, vec_capacity, Vec, Result}
 use Rattle.std.specs.declared.alloc.AllocError.{AllocError}
+use Rattle.std.specs.declared.alloc.Global.{Global}
 use Rattle.programs.specs.declared.program.Node.TheVariants.{Place}
 use Rattle.programs.specs.declared.program.Placed.{Placed}
 use Rattle.programs.specs.declared.program.Root.{Root}
@@ -43,6 +44,11 @@ pub record Grown (ns : List Placed) (ps : List ℕ) (rs : List Root) (p q : Prog
   pub parts : parts_of q ≡ parts_of p ++ ps
   pub roots : roots_of q ≡ roots_of p ++ rs
   pub room : SameRoom p q
+
+-- an entry was added to a table and has that number; or there was no room, and nothing changed
+abbrev pub EntryAdded : {T : Type 0} → T → Vec T Global → Vec T Global → Result ℕ AllocError → Type 0
+EntryAdded e p q (Ok i) = (vec_items q ≡ vec_items p ++ e ∷ []) × (vec_capacity q ≡ vec_capacity p) × (i ≡ length (vec_items p))
+EntryAdded e p q (Err _) = (q ≡ p) × (vec_capacity p ≤ length (vec_items p))
 
 -- a node was added and has that number; or there was no room, and nothing changed
 abbrev pub NodeAdded : Placed → Program → Program → Result ℕ AllocError → Type 0

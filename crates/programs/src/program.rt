@@ -1,23 +1,10 @@
 // A checked listing as a run executes it: an arena of nodes, the parts of a construct before it, names resolved to entries.
 ghost use Rattle.std.specs.Prelude.{◌≡◌, length, get_or, IfOk, slice_index, slice_index_or};
-ghost use Rattle.programs.specs.Programs.{nodes_of, parts_of, roots_of, no_node, no_root, Fresh, NodeAdded, PartAdded, RootAdded, NamedRun};
+ghost use Rattle.programs.specs.Programs.{nodes_of, parts_of, roots_of, no_node, no_root, Fresh, EntryAdded, NodeAdded, PartAdded, RootAdded, NamedRun};
 
+use grammar::tree::{Binder, Range};
 use machine::order::Gate;
 use std::alloc::{AllocError, Global};
-
-// The numbers from `first` to `end`, `end` left out.
-#[derive(Clone, Copy)]
-pub struct Range {
-    pub first: usize,
-    pub end: usize,
-}
-
-#[derive(Clone, Copy)]
-pub enum Binder {
-    Let,
-    Mut,
-    Set,
-}
 
 // A leaf of a value.
 #[derive(Clone, Copy)]
@@ -39,7 +26,7 @@ pub enum Act {
 
 #[derive(Clone, Copy)]
 pub enum Node {
-    // no term: the entry of a name that is bound by the construct after it, and whether the name may be set
+    // no term: a type, or the entry of a name that is bound by the construct after it, and whether the name may be set
     Place(bool),
     // a name that a set alters: its entry
     Target(usize),
@@ -84,12 +71,12 @@ pub struct Root {
 }
 
 // What a look past the end gives.
-const NO_NODE: Placed = Placed {
+pub const NO_NODE: Placed = Placed {
     place: 0,
     node: Node::Place(false),
 };
 
-const NO_ROOT: Root = Root {
+pub const NO_ROOT: Root = Root {
     body: 0,
     names: Range { first: 0, end: 0 },
 };
@@ -108,13 +95,10 @@ impl Program {
     pub fn room(heap: Global, size: usize) -> Result<Program, AllocError>
         ensures { IfOk result (λ p. Fresh size p) }
     {
-        let nodes = Vec::with_capacity(heap, size)?;
-        let parts = Vec::with_capacity(heap, size)?;
-        let roots = Vec::with_capacity(heap, size)?;
         Ok(Program {
-            nodes,
-            parts,
-            roots,
+            nodes: Vec::with_capacity(heap, size)?,
+            parts: Vec::with_capacity(heap, size)?,
+            roots: Vec::with_capacity(heap, size)?,
             run: 0,
             run_place: 0,
         })
@@ -138,44 +122,28 @@ impl Program {
     pub fn node(&self, at: usize) -> Node
         ensures { result ≡ (get_or (nodes_of self.now) at no_node).node }
     {
-        if at < self.nodes.len() {
-            self.nodes[at].node
-        } else {
-            NO_NODE.node
-        }
+        self.nodes.get(at).copied().unwrap_or(NO_NODE).node
     }
 
     // The place of the first word of the node at `at`.
     pub fn place(&self, at: usize) -> usize
         ensures { result ≡ (get_or (nodes_of self.now) at no_node).place }
     {
-        if at < self.nodes.len() {
-            self.nodes[at].place
-        } else {
-            NO_NODE.place
-        }
+        self.nodes.get(at).copied().unwrap_or(NO_NODE).place
     }
 
     // The table of parts at `at`.
     pub fn part(&self, at: usize) -> usize
         ensures { result ≡ slice_index (parts_of self.now) at }
     {
-        if at < self.parts.len() {
-            self.parts[at]
-        } else {
-            0
-        }
+        self.parts.get(at).copied().unwrap_or(0)
     }
 
     // The operation with so many above it.
     pub fn root(&self, f: usize) -> Root
         ensures { result ≡ slice_index_or (roots_of self.now) f no_root }
     {
-        if f < self.roots.len() {
-            self.roots[f]
-        } else {
-            NO_ROOT
-        }
+        self.roots.get(f).copied().unwrap_or(NO_ROOT)
     }
 
     // The node of the term to run.
@@ -196,22 +164,14 @@ impl Program {
     pub fn add_node(&mut self, place: usize, node: Node) -> Result<usize, AllocError>
         ensures { NodeAdded (record { place = place; node = node }) self.old self.new result }
     {
-        let at = self.nodes.len();
-        if at >= self.nodes.capacity() {
-            return Err(AllocError);
-        }
-        self.nodes.push_reserved(Placed { place, node });
-        Ok(at)
+        add(&mut self.nodes, Placed { place, node })
     }
 
     // Adds an entry to the table of parts.
     pub fn add_part(&mut self, part: usize) -> Result<(), AllocError>
         ensures { PartAdded part self.old self.new result }
     {
-        if self.parts.len() >= self.parts.capacity() {
-            return Err(AllocError);
-        }
-        self.parts.push_reserved(part);
+        add(&mut self.parts, part)?;
         Ok(())
     }
 
@@ -219,10 +179,7 @@ impl Program {
     pub fn add_root(&mut self, root: Root) -> Result<(), AllocError>
         ensures { RootAdded root self.old self.new result }
     {
-        if self.roots.len() >= self.roots.capacity() {
-            return Err(AllocError);
-        }
-        self.roots.push_reserved(root);
+        add(&mut self.roots, root)?;
         Ok(())
     }
 
@@ -233,4 +190,16 @@ impl Program {
         self.run = run;
         self.run_place = run_place;
     }
+}
+
+// Adds an entry to a table that has room for it, and answers its number.
+fn add<T: Copy>(table: &mut Vec<T>, entry: T) -> Result<usize, AllocError>
+    ensures { EntryAdded entry table.old table.new result }
+{
+    let at = table.len();
+    if at >= table.capacity() {
+        return Err(AllocError);
+    }
+    table.push_reserved(entry);
+    Ok(at)
 }

@@ -1,17 +1,16 @@
 // The checker of the rules: one walk over the syntax tree in the order of the listing's words.
 ghost use Rattle.rules.specs.declared.checker.Binding.{Binding};
 
-use crate::program::{Node, Root};
-use crate::search::Named;
-use crate::types::{QBIT, Typed, UNIT};
-use grammar::tree::Name;
+use crate::fault::RuleFault;
+use crate::program::{Entry, Node, Program, Root};
+use crate::search::{Named, find, text_of};
+use crate::types::{Typed, Types, within};
+use grammar::tree::{Name, Range, Tree};
 use std::alloc::{AllocError, Global};
 
 mod listing;
 mod names;
 mod terms;
-
-pub use listing::check;
 
 // A name in scope: the node that is its entry, whether it may be set, and whether it is spent.
 #[derive(Clone, Copy)]
@@ -38,10 +37,8 @@ impl Named for Binding {
 
 #[derive(Drop)]
 pub struct Checker {
-    // the program, and the place and type of each node
-    nodes: Vec<Node>,
-    places: Vec<usize>,
-    types: Vec<Typed>,
+    // an entry of the program for each node
+    entries: Vec<Entry>,
     roots: Vec<Root>,
     // the names in scope, the innermost last
     scope: Vec<Binding>,
@@ -56,70 +53,83 @@ pub struct Checker {
 impl Checker {
     // A checker with room for a tree of up to `size` nodes.
     pub fn room(heap: Global, size: usize) -> Result<Checker, AllocError> {
-        let nodes = Vec::with_capacity(heap, size)?;
-        let places = Vec::with_capacity(heap, size)?;
-        let types = Vec::with_capacity(heap, size)?;
-        let roots = Vec::with_capacity(heap, size)?;
-        let scope = Vec::with_capacity(heap, size)?;
-        let trail = Vec::with_capacity(heap, size)?;
         Ok(Checker {
-            nodes,
-            places,
-            types,
-            roots,
-            scope,
-            trail,
+            entries: Vec::with_capacity(heap, size)?,
+            roots: Vec::with_capacity(heap, size)?,
+            scope: Vec::with_capacity(heap, size)?,
+            trail: Vec::with_capacity(heap, size)?,
             floor: 0,
             above: 0,
         })
     }
 
-    fn type_at(&self, at: usize) -> Typed {
-        if at < self.types.len() {
-            self.types[at]
-        } else {
-            UNIT
-        }
-    }
-
     // The node at `at` is this, and has this type.
     fn put(&mut self, at: usize, node: Node, typed: Typed) {
-        if at < self.nodes.len() {
-            self.nodes[at] = node;
+        if let Some(entry) = self.entries.get_mut(at) {
+            entry.placed.node = node;
+            entry.typed = typed;
         }
-        if at < self.types.len() {
-            self.types[at] = typed;
+    }
+}
+
+// A walk over a listing and its syntax tree.
+#[derive(Drop)]
+struct Walk<'a> {
+    text: &'a [u8],
+    tree: &'a Tree,
+    checker: Checker,
+}
+
+impl<'a> Walk<'a> {
+    // The types of the nodes, as far as they were checked.
+    fn types(&self) -> Types<'_> {
+        Types {
+            entries: self.checker.entries.as_slice(),
+            parts: self.tree.parts(),
         }
     }
 
-    fn binding(&self, at: usize) -> Binding {
-        if at < self.scope.len() {
-            self.scope[at]
-        } else {
-            Binding {
-                name: Name { place: 0, span: 0 },
-                entry: 0,
-                settable: false,
-                spent: false,
-            }
-        }
+    fn type_at(&self, at: usize) -> Typed {
+        self.types().at(at)
     }
 
-    fn mark(&mut self, at: usize, spent: bool) {
-        if at < self.scope.len() {
-            let mut binding = self.scope[at];
-            binding.spent = spent;
-            self.scope[at] = binding;
-        }
+    // The entries of the parts in a range, in reverse order.
+    fn parts_of(&self, range: Range) -> &'a [usize] {
+        within(self.tree.parts(), range)
     }
 
-    // The entry that a set name stands for.
-    fn target(&self, at: usize) -> usize {
-        if at < self.nodes.len() {
-            if let Node::Target(entry) = self.nodes[at] {
-                return entry;
-            }
-        }
-        0
+    // The place of the first word of a node.
+    fn place(&self, at: usize) -> usize {
+        self.tree.node(at).place
     }
+
+    // The first of the entries with this name.
+    fn find<E: Named>(&self, entries: &[E], name: Name) -> Option<usize> {
+        find(entries, self.text, text_of(self.text, name))
+    }
+}
+
+// The checker after the walk over a listing that follows the rules.
+fn walked<'a>(text: &'a [u8], tree: &'a Tree, checker: Checker) -> Result<Checker, RuleFault> {
+    let mut walk = Walk {
+        text,
+        tree,
+        checker,
+    };
+    walk.listing()?;
+    Ok(walk.checker)
+}
+
+// The program of a listing that follows the rules.
+pub fn check(text: &[u8], tree: Tree, checker: Checker) -> Result<Program, RuleFault> {
+    let Checker { entries, roots, .. } = walked(text, &tree, checker)?;
+    let run = tree.run_term();
+    let run_place = tree.run_place();
+    Ok(Program {
+        entries,
+        parts: tree.into_parts(),
+        roots,
+        run,
+        run_place,
+    })
 }

@@ -2,72 +2,27 @@
 ghost use Rattle.std.specs.Prelude.{◌≡◌, true};
 ghost use Rattle.rules.specs.Programs.{Falls};
 
-use crate::types::{Typed, part_at, type_at};
-use grammar::tree::{Binder, Range};
-use machine::order::Gate;
+use crate::types::{Typed, UNIT};
+use programs::program::{NO_NODE, NO_ROOT, Placed};
+pub use programs::program::{Act, Leaf, Node, Root};
 
-// A leaf of a value.
+// A node with its type.
 #[derive(Clone, Copy)]
-pub enum Leaf {
-    Unit,
-    Bit(bool),
-    Int(u32),
-    Handle(u8),
+pub(crate) struct Entry {
+    pub(crate) placed: Placed,
+    pub(crate) typed: Typed,
 }
 
-// What is done once the parts are values; an operation goes by its number.
-#[derive(Clone, Copy)]
-pub enum Act {
-    Tuple,
-    Meas,
-    Gate(Gate),
-    Call(usize),
-}
-
-#[derive(Clone, Copy)]
-pub enum Node {
-    // no term: a type, or a name that is bound here and whose entry this is
-    Place,
-    // a name that a set alters: its entry
-    Target(usize),
-    Constant(Leaf),
-    // a name: its entry
-    Use(usize),
-    Built {
-        act: Act,
-        parts: Range,
-    },
-    Bind {
-        binder: Binder,
-        names: Range,
-        right: usize,
-        body: usize,
-    },
-    Using {
-        names: Range,
-        body: usize,
-    },
-    If {
-        test: usize,
-        yes: usize,
-        other: usize,
-    },
-}
-
-// An operation: the node of its body, and the entries of its parameters.
-#[derive(Clone, Copy)]
-pub struct Root {
-    pub body: usize,
-    pub names: Range,
-}
+// What a look past the end gives.
+const NO_ENTRY: Entry = Entry {
+    placed: NO_NODE,
+    typed: UNIT,
+};
 
 #[derive(Drop)]
 pub struct Program {
-    pub(crate) nodes: Vec<Node>,
+    pub(crate) entries: Vec<Entry>,
     pub(crate) parts: Vec<usize>,
-    // the place of the first word of each node
-    pub(crate) places: Vec<usize>,
-    pub(crate) types: Vec<Typed>,
     pub(crate) roots: Vec<Root>,
     pub(crate) run: usize,
     pub(crate) run_place: usize,
@@ -76,46 +31,34 @@ pub struct Program {
 impl Program {
     // How many nodes there are.
     pub fn size(&self) -> usize {
-        self.nodes.len()
+        self.entries.len()
     }
 
     // The node at `at`, or a place where there is none; what it names by number stands before it.
     pub fn node(&self, at: usize) -> Node
         ensures { Falls at result }
     {
-        if at < self.nodes.len() {
-            let node = self.nodes[at];
-            if falls(at, node) {
-                return node;
-            }
-        }
-        Node::Place
+        let node = self.entry(at).placed.node;
+        if falls(at, node) { node } else { NO_NODE.node }
     }
 
     // The table of parts at `at`.
     pub fn part(&self, at: usize) -> usize {
-        part_at(self.parts.as_slice(), at)
+        self.parts.get(at).copied().unwrap_or(0)
     }
 
     // The place of the first word of the node at `at`.
     pub fn place(&self, at: usize) -> usize {
-        part_at(self.places.as_slice(), at)
+        self.entry(at).placed.place
     }
 
     // The type of the node at `at`.
     pub fn typed(&self, at: usize) -> Typed {
-        type_at(self.types.as_slice(), at)
+        self.entry(at).typed
     }
 
     pub fn root(&self, f: usize) -> Root {
-        if f < self.roots.len() {
-            self.roots[f]
-        } else {
-            Root {
-                body: 0,
-                names: Range { first: 0, end: 0 },
-            }
-        }
+        self.roots.get(f).copied().unwrap_or(NO_ROOT)
     }
 
     // The node of the term to run.
@@ -127,6 +70,10 @@ impl Program {
     pub fn run_place(&self) -> usize {
         self.run_place
     }
+
+    fn entry(&self, at: usize) -> Entry {
+        self.entries.get(at).copied().unwrap_or(NO_ENTRY)
+    }
 }
 
 // Do the terms that a node names by their nodes stand before it?
@@ -134,13 +81,8 @@ fn falls(at: usize, node: Node) -> bool
     ensures { result ≡ true → Falls at node }
 {
     match node {
-        Node::Bind {
-            binder: _,
-            names: _,
-            right,
-            body,
-        } => right < at && body < at,
-        Node::Using { names: _, body } => body < at,
+        Node::Bind { right, body, .. } => right < at && body < at,
+        Node::Using { body, .. } => body < at,
         Node::If { test, yes, other } => test < at && yes < at && other < at,
         _ => true,
     }

@@ -1,6 +1,5 @@
 // One search for every kind of entry that carries a name.
 ghost use Rattle.std.specs.Prelude.{◌≡◌, ℕ, map};
-ghost use Rattle.std.specs.Str.{bytes_eq};
 ghost use Rattle.rules.specs.Names.{part, seek};
 ghost use Rattle.rules.specs.Nodes.{named};
 
@@ -19,6 +18,7 @@ pub trait Named {
         ensures { result ≡ spans self.now };
 }
 
+// The impls differ in the path to the name alone: a trait for the path would be as long, and no macro of the repository may write an `impl`.
 impl Named for Operation {
     ghost starts = { λ o. o.name.place };
 
@@ -85,31 +85,24 @@ impl Named for Node {
     }
 }
 
-fn is_name(src: &[u8], place: usize, span: usize, name: &[u8]) -> bool
-    ensures { result ≡ bytes_eq (part src.now place span) name.now }
+// The bytes of an entry's name, cut off at the listing's end.
+fn text<'a, E: Named>(src: &'a [u8], entry: &E) -> &'a [u8]
+    ensures { result.now ≡ part src.now (E.starts entry.now) (E.spans entry.now) }
 {
-    let from = place.min(src.len());
-    let to = from + span.min(src.len() - from);
-    &src[from..to] == name
+    let rest = &src[entry.place().min(src.len())..];
+    &rest[..entry.span().min(rest.len())]
 }
 
 // The bytes of a name.
 pub fn text_of(src: &[u8], name: Name) -> &[u8]
     ensures { result.now ≡ part src.now name.place name.span }
 {
-    let from = name.place.min(src.len());
-    let to = from + name.span.min(src.len() - from);
-    &src[from..to]
+    text(src, &name)
 }
 
 // The first entry whose name has these bytes.
 pub fn find<E: Named>(entries: &[E], src: &[u8], name: &[u8]) -> Option<usize>
     ensures { result ≡ seek 0 name.now (map (λ e. part src.now (E.starts e) (E.spans e)) entries.now) }
 {
-    for (i, e) in entries.iter().enumerate() {
-        if is_name(src, e.place(), e.span(), name) {
-            return Some(i);
-        }
-    }
-    None
+    entries.iter().position(|entry| text(src, entry) == name)
 }

@@ -1,5 +1,6 @@
 // The table of types: an entry for each node of the tree.
-use grammar::tree::{Basic, Range};
+use crate::program::Entry;
+use grammar::tree::{Basic, PAIR_END, Range};
 
 // The most leaves of a type.
 pub const LEAVES: usize = 8;
@@ -46,12 +47,24 @@ pub const QBIT: Typed = Typed {
     qbits: 1,
 };
 
-pub fn basic(b: Basic) -> Typed {
-    match b {
-        Basic::Unit => UNIT,
-        Basic::Bit => BIT,
-        Basic::Int => INT,
-        Basic::Qbit => QBIT,
+// The pair of the type qbit.
+pub const PAIR: Typed = Typed {
+    shape: Type::Tuple(Range {
+        first: 0,
+        end: PAIR_END,
+    }),
+    leaves: 2,
+    qbits: 2,
+};
+
+impl From<Basic> for Typed {
+    fn from(b: Basic) -> Typed {
+        match b {
+            Basic::Unit => UNIT,
+            Basic::Bit => BIT,
+            Basic::Int => INT,
+            Basic::Qbit => QBIT,
+        }
     }
 }
 
@@ -78,48 +91,56 @@ impl Typed {
     }
 }
 
-pub fn type_at(types: &[Typed], at: usize) -> Typed {
-    if at < types.len() { types[at] } else { UNIT }
+// The entries of a table in a range, or none where the table is shorter.
+pub(crate) fn within<T>(table: &[T], range: Range) -> &[T] {
+    table.get(range.numbers()).unwrap_or(&[])
 }
 
-pub fn part_at(parts: &[usize], at: usize) -> usize {
-    if at < parts.len() { parts[at] } else { 0 }
+// The types of the entries, and the table of parts that their tuples name.
+#[derive(Clone, Copy)]
+pub(crate) struct Types<'a> {
+    pub(crate) entries: &'a [Entry],
+    pub(crate) parts: &'a [usize],
 }
 
-// Are two types equal, the first with at most `left` leaves?
-#[cycle(type_equality)]
-fn equal(types: &[Typed], parts: &[usize], a: usize, b: usize, left: usize) -> bool {
-    let other = type_at(types, b).shape;
-    match type_at(types, a).shape {
-        Type::Unit => matches!(other, Type::Unit),
-        Type::Bit => matches!(other, Type::Bit),
-        Type::Int => matches!(other, Type::Int),
-        Type::Qbit => matches!(other, Type::Qbit),
-        Type::Tuple(these) => match other {
-            Type::Tuple(those) => equal_parts(types, parts, these, those, left),
-            _ => false,
-        },
+impl Types<'_> {
+    // The type of an entry, or unit where there is none.
+    pub(crate) fn at(&self, at: usize) -> Typed {
+        self.entries.get(at).map_or(UNIT, |entry| entry.typed)
     }
-}
 
-// Are two tuples' parts equal at each place? Each part has fewer leaves than the tuple.
-#[cycle(type_equality)]
-fn equal_parts(types: &[Typed], parts: &[usize], these: Range, those: Range, left: usize) -> bool {
-    let mut a = these.end;
-    let mut b = those.end;
-    while these.first < a && those.first < b {
-        a -= 1;
-        b -= 1;
-        let part = part_at(parts, a);
-        let leaves = type_at(types, part).leaves;
-        if leaves >= left || !equal(types, parts, part, part_at(parts, b), leaves) {
-            return false;
+    // Are two types equal, the first with at most `left` leaves?
+    #[cycle(type_equality)]
+    fn equal(&self, a: usize, b: usize, left: usize) -> bool {
+        match (self.at(a).shape, self.at(b).shape) {
+            (Type::Unit, Type::Unit)
+            | (Type::Bit, Type::Bit)
+            | (Type::Int, Type::Int)
+            | (Type::Qbit, Type::Qbit) => true,
+            (Type::Tuple(these), Type::Tuple(those)) => self.equal_parts(these, those, left),
+            _ => false,
         }
     }
-    a <= these.first && b <= those.first
-}
 
-// Are the types of two entries equal?
-pub fn same(types: &[Typed], parts: &[usize], a: usize, b: usize) -> bool {
-    equal(types, parts, a, b, type_at(types, a).leaves)
+    // Are two tuples' parts equal at each place? Each part has fewer leaves than the tuple.
+    #[cycle(type_equality)]
+    fn equal_parts(&self, these: Range, those: Range, left: usize) -> bool {
+        let these = within(self.parts, these);
+        let those = within(self.parts, those);
+        if these.len() != those.len() {
+            return false;
+        }
+        for (a, b) in these.iter().zip(those) {
+            let leaves = self.at(*a).leaves;
+            if leaves >= left || !self.equal(*a, *b, leaves) {
+                return false;
+            }
+        }
+        true
+    }
+
+    // Are the types of two entries equal?
+    pub(crate) fn same(&self, a: usize, b: usize) -> bool {
+        self.equal(a, b, self.at(a).leaves)
+    }
 }

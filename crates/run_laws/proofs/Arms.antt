@@ -4,9 +4,9 @@ use mathlib.Core.Option.{Option, none, some}
 use Rattle.grammar.specs.declared.tree.Range.{Range}
 use Rattle.grammar.specs.declared.tree.Binder.{Binder}
 use Rattle.grammar.specs.declared.tree.Binder.TheVariants.{Let, Mut, Set}
-use Rattle.rules.specs.declared.program.Leaf.{Leaf}
-use Rattle.rules.specs.declared.program.Node.{Node}
-use Rattle.rules.specs.declared.program.Node.TheVariants.{Place as NoTerm, Constant, Use, Bind, Using, If}
+use Rattle.programs.specs.declared.program.Leaf.{Leaf}
+use Rattle.programs.specs.declared.program.Node.{Node}
+use Rattle.programs.specs.declared.program.Node.TheVariants.{Place as NoTerm, Constant, Use, Bind, Using, If}
 use Rattle.calculus.specs.Syntax.{Value, bit_of, handle_of, Values, names, Place, Op, Term, done, bind, mut, using_in}
 use Rattle.calculus.specs.Rules.{nth}
 use Rattle.calculus.specs.Steps.{by_entry, puts, given, Table, written, around, Event, prepares, handle_values, Taken, Each, Clear, Fresh}
@@ -31,7 +31,7 @@ pub waits_back : {P : Code} {σ : Env} {k j : ℕ} {nd : Node} {vs : List Value}
 waits_back {P} {σ} {k} {j} {nd} {vs} {t} {u} q h = subst (λ (m : Node). Waits P σ k j m vs t u) (sym q) h
 
 -- what is a term is one of the nodes
-pub is_node : (P : Code) (i : ℕ) (nd : Node) → P.node i ≡ nd → (nd ≡ NoTerm → ⊥) → i < P.size
+pub is_node : (P : Code) (i : ℕ) (nd : Node) → P.node i ≡ nd → (nd ≡ NoTerm false → ⊥) → i < P.size
 is_node P i nd q h = go (ltb i P.size) refl
   where
     go : (b : Bool) → ltb i P.size ≡ b → i < P.size
@@ -154,7 +154,7 @@ module _ {ops : List Op} {P : Code} {T : List Value} {μ : Table} {vals : List V
       kn = is_node P k (Bind w r e b) q (λ z. never cc)
 
       own_row : (m : Bool) → Own P m r → r.first ≤ r.end → entries P r ≡ within r
-      own_row m own lr = own_entries P r.first c (λ y l h. (own y l (omega (arith, h, lr))).0)
+      own_row m own lr = own_entries P m r.first c (λ y l h. (own y l (omega (arith, h, lr))).0)
 
       Goal : Type 0
       Goal = Went ops P L μ (P.place k) [] T' fs vals (entering b)

@@ -4,7 +4,7 @@ use mathlib.Core.Option.{Option, none, some}
 use Rattle.machine.specs.Model.{absent}
 use Rattle.grammar.specs.declared.tree.Binder.{Binder}
 use Rattle.grammar.specs.declared.tree.Binder.TheVariants.{Let, Mut, Set}
-use Rattle.rules.specs.declared.program.Node.{Node}
+use Rattle.programs.specs.declared.program.Node.{Node}
 use Rattle.calculus.specs.Syntax.{Name, var, entry, handle, Value, the_unit, bit_of, int_of, handle_of, tuple_of, Values, no_values, ◌∷ᵛ◌, Place}
 use Rattle.calculus.specs.Syntax.{Term, Terms}
 use Rattle.calculus.specs.Steps.{Table, EachHeld, EachHeldAll, EachName, Each, EachPart, Clear, Fresh}

@@ -3,7 +3,7 @@ use Rattle.std.proofs.Common.{◌≡◌, ℕ, List, [], ◌∷◌, sym, refl, ap
 use mathlib.Core.Option.{Option, none, some}
 use Rattle.grammar.specs.declared.tree.Binder.{Binder}
 use Rattle.grammar.specs.declared.tree.Binder.TheVariants.{Let, Mut, Set}
-use Rattle.rules.specs.declared.program.Node.{Node}
+use Rattle.programs.specs.declared.program.Node.{Node}
 use Rattle.calculus.specs.Syntax.{Value, Place, Term, give, done, name, build, bind, mut, set, using_in, if_else}
 use Rattle.calculus.specs.Steps.{Table}
 use Rattle.run_laws.specs.Programs.{Code, entries, Shape, shape_constant, shape_use, shape_built, shape_bind, shape_using, shape_if}

@@ -3,7 +3,7 @@ use Rattle.std.proofs.Common.{◌≡◌, ℕ, ◌<◌, ◌≤◌, Bool, true, fa
 use mathlib.Core.Option.{Option, none, some}
 use Rattle.grammar.specs.declared.tree.Binder.{Binder}
 use Rattle.grammar.specs.declared.tree.Binder.TheVariants.{Let, Mut, Set}
-use Rattle.rules.specs.declared.program.Node.{Node}
+use Rattle.programs.specs.declared.program.Node.{Node}
 use Rattle.calculus.specs.Syntax.{Ty, Tys, bit, Name, Value, Values, Form, Pattern, Place, Op}
 use Rattle.calculus.specs.Syntax.{Term, done, build, bind, mut, set, if_else, Terms, ◌∷ˢ◌}
 use Rattle.calculus.specs.Rules.{Uses, Scope, Has, has_build, has_bind, has_mut, has_set, has_if, Parts, parts_more}

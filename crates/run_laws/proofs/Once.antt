@@ -4,7 +4,7 @@ use mathlib.Core.Option.{Option, none, some}
 use Rattle.grammar.specs.declared.tree.Range.{Range}
 use Rattle.grammar.specs.declared.tree.Binder.{Binder}
 use Rattle.grammar.specs.declared.tree.Binder.TheVariants.{Let, Mut, Set}
-use Rattle.rules.specs.declared.program.Node.{Node}
+use Rattle.programs.specs.declared.program.Node.{Node}
 use Rattle.calculus.specs.Syntax.{Ty, Tys, Name, var, Value, names, Form, Place, Op, Term, name, build, bind, mut, set, using_in, if_else, Terms, ◌∷ˢ◌}
 use Rattle.calculus.specs.Rules.{Uses, Binding, settable, Scope, extend, nth, MaySet, may_more, Has, has_name, has_build, has_bind, has_mut, has_set, has_using, has_if, Parts, parts_more, Under, under_none, under_more}
 use Rattle.calculus.specs.Steps.{Table, around}
@@ -67,7 +67,7 @@ module _ {ops : List Op} {lim n : ℕ} where
       Under ops lim as_bound Γ Δ (names (pattern (entries P r))) Ts t U → Inner ops lim n t
   row_inner P m r {as_bound} {Γ} {Δ} {Ts} {t} {U} lr ln own o u =
       under_inner n (r.end - r.first) r.first (omega (arith, lr, ln)) o
-      (subst (λ (xs : List ℕ). Under ops lim as_bound Γ Δ xs Ts t U) (names_pattern (entries P r) ∙ own_entries P r.first (r.end - r.first) (λ y l h. (own y l (omega (arith, h, lr))).0)) u)
+      (subst (λ (xs : List ℕ). Under ops lim as_bound Γ Δ xs Ts t U) (names_pattern (entries P r) ∙ own_entries P m r.first (r.end - r.first) (λ y l h. (own y l (omega (arith, h, lr))).0)) u)
 
   let_inner : (P : Code) (r : Range) {p : Place} {e u : Term} → r.first ≤ r.end → r.end ≤ n → Own P false r → Inner ops lim n (bind p (pattern (entries P r)) e u) → Inner ops lim n e × Inner ops lim n u
   let_inner P r {p} {e} {u} lr ln own i = go i.has

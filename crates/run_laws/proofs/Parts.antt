@@ -7,10 +7,10 @@ use Rattle.machine.specs.declared.order.Handles.{Handles}
 use Rattle.machine.specs.declared.order.Order.TheVariants.{Applied, Measured}
 use Rattle.grammar.specs.declared.tree.Range.{Range}
 use Rattle.grammar.specs.declared.tree.Binder.{Binder}
-use Rattle.rules.specs.declared.program.Act.{Act}
-use Rattle.rules.specs.declared.program.Act.TheVariants.{Call}
-use Rattle.rules.specs.declared.program.Node.{Node}
-use Rattle.rules.specs.declared.program.Node.TheVariants.{Built, Bind, If}
+use Rattle.programs.specs.declared.program.Act.{Act}
+use Rattle.programs.specs.declared.program.Act.TheVariants.{Call}
+use Rattle.programs.specs.declared.program.Node.{Node}
+use Rattle.programs.specs.declared.program.Node.TheVariants.{Built, Bind, If}
 use Rattle.calculus.specs.Syntax.{Value, bit_of, handle_of, tuple_of, Values, no_values, ◌∷ᵛ◌, flat, Form, tupling, meas, gate, call, Op, Term, done, build, no_terms}
 use Rattle.calculus.specs.Rules.{most_leaves}
 use Rattle.calculus.specs.Steps.{puts, given, Table, around, handle_values, joined, Acts, acts_tuple, acts_meas, acts_gate, acts_call, none_left, Step, step_build}

@@ -2,8 +2,8 @@
 use Rattle.std.proofs.Common.{◌≡◌, ℕ, suc, ◌+◌, ◌-◌, ◌≤◌, List, [], ◌∷◌, length, take, ap, ◌∙◌, arith}
 use Rattle.std.proofs.lemmas.List.{length-take-le, length-reverse}
 use Rattle.grammar.specs.declared.tree.Range.{Range}
-use Rattle.rules.specs.declared.program.Act.TheVariants.{Tuple}
-use Rattle.rules.specs.declared.program.Node.TheVariants.{Built}
+use Rattle.programs.specs.declared.program.Act.TheVariants.{Tuple}
+use Rattle.programs.specs.declared.program.Node.TheVariants.{Built}
 use Rattle.calculus.specs.Syntax.{leaves, leaves_all, Value, the_unit, bit_of, int_of, handle_of, tuple_of, Values, no_values, ◌∷ᵛ◌, type_of, types_of, flat, tupling, Op, Term}
 use Rattle.calculus.specs.Rules.{most_leaves}
 use Rattle.calculus.specs.Steps.{Table, around, handle_values}

@@ -7,10 +7,10 @@ use Rattle.machine.specs.declared.order.Handles.{Handles}
 use Rattle.machine.specs.declared.order.Order.TheVariants.{Applied, Measured}
 use Rattle.grammar.specs.declared.tree.Range.{Range}
 use Rattle.grammar.specs.declared.tree.Binder.{Binder}
-use Rattle.rules.specs.declared.program.Leaf.{Leaf}
-use Rattle.rules.specs.declared.program.Act.{Act}
-use Rattle.rules.specs.declared.program.Act.TheVariants.{Call}
-use Rattle.rules.specs.declared.program.Node.TheVariants.{Constant, Use, Built, Bind, Using, If}
+use Rattle.programs.specs.declared.program.Leaf.{Leaf}
+use Rattle.programs.specs.declared.program.Act.{Act}
+use Rattle.programs.specs.declared.program.Act.TheVariants.{Call}
+use Rattle.programs.specs.declared.program.Node.TheVariants.{Constant, Use, Built, Bind, Using, If}
 use Rattle.calculus.specs.Syntax.{Ty, Value, bit_of, handle_of, tuple_of, Values, no_values, ◌∷ᵛ◌, tupling, meas, gate, call, Op, Term}
 use Rattle.calculus.specs.Steps.{Table, around, prepares, handle_values, joined, Taken}
 use Rattle.calculus.specs.Runs.{live_names, Sound}

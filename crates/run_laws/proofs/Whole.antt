@@ -6,7 +6,7 @@ use Rattle.machine.specs.declared.order.Gate.{Gate}
 use Rattle.machine.specs.declared.order.Handles.{Handles}
 use Rattle.machine.specs.declared.order.Order.TheVariants.{Prepared}
 use Rattle.grammar.specs.declared.tree.Range.{Range}
-use Rattle.rules.specs.declared.program.Node.TheVariants.{Using}
+use Rattle.programs.specs.declared.program.Node.TheVariants.{Using}
 use Rattle.calculus.specs.Syntax.{Ty, Value, handle_of, no_values, ◌∷ᵛ◌, meas, gate, Place, Op, Term}
 use Rattle.calculus.specs.Steps.{Table, empty, around, Event, prepares, handle_values}
 use Rattle.calculus.specs.Runs.{live_names, live_count, AcceptsAll, at_start, onward, Sound}

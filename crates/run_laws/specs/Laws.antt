@@ -8,10 +8,10 @@ use Rattle.machine.specs.declared.order.Handles.{Handles}
 use Rattle.machine.specs.declared.order.Order.TheVariants.{Applied, Measured}
 use Rattle.grammar.specs.declared.tree.Range.{Range}
 use Rattle.grammar.specs.declared.tree.Binder.{Binder}
-use Rattle.rules.specs.declared.program.Leaf.{Leaf}
-use Rattle.rules.specs.declared.program.Act.{Act}
-use Rattle.rules.specs.declared.program.Act.TheVariants.{Tuple, Call}
-use Rattle.rules.specs.declared.program.Node.TheVariants.{Constant, Use, Built, Bind, Using, If}
+use Rattle.programs.specs.declared.program.Leaf.{Leaf}
+use Rattle.programs.specs.declared.program.Act.{Act}
+use Rattle.programs.specs.declared.program.Act.TheVariants.{Tuple, Call}
+use Rattle.programs.specs.declared.program.Node.TheVariants.{Constant, Use, Built, Bind, Using, If}
 use Rattle.calculus.specs.Syntax.{Ty, Value, bit_of, handle_of, tuple_of, Values, no_values, ◌∷ᵛ◌, flat, tupling, meas, gate, call, Place, Op, Term, done}
 use Rattle.calculus.specs.Rules.{nth, most_leaves}
 use Rattle.calculus.specs.Steps.{Table, around, Event, prepares, handle_values, joined, Taken, Each}

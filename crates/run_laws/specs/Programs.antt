@@ -5,13 +5,13 @@ use Rattle.machine.specs.Model.{distinct}
 use Rattle.grammar.specs.declared.tree.Range.{Range}
 use Rattle.grammar.specs.declared.tree.Binder.{Binder}
 use Rattle.grammar.specs.declared.tree.Binder.TheVariants.{Let, Mut, Set}
-use Rattle.rules.specs.declared.program.Leaf.{Leaf}
-use Rattle.rules.specs.declared.program.Leaf.TheVariants.{Unit as UnitLeaf, Bit, Int, Handle}
-use Rattle.rules.specs.declared.program.Act.{Act}
-use Rattle.rules.specs.declared.program.Act.TheVariants.{Tuple, Meas, Gate, Call}
-use Rattle.rules.specs.declared.program.Node.{Node}
-use Rattle.rules.specs.declared.program.Node.TheVariants.{Place as NoTerm, Target, Constant, Use, Built, Bind, Using, If}
-use Rattle.rules.specs.declared.program.Root.{Root}
+use Rattle.programs.specs.declared.program.Leaf.{Leaf}
+use Rattle.programs.specs.declared.program.Leaf.TheVariants.{Unit as UnitLeaf, Bit, Int, Handle}
+use Rattle.programs.specs.declared.program.Act.{Act}
+use Rattle.programs.specs.declared.program.Act.TheVariants.{Tuple, Meas, Gate, Call}
+use Rattle.programs.specs.declared.program.Node.{Node}
+use Rattle.programs.specs.declared.program.Node.TheVariants.{Place as NoTerm, Target, Constant, Use, Built, Bind, Using, If}
+use Rattle.programs.specs.declared.program.Root.{Root}
 use Rattle.calculus.specs.Syntax.{var, Value, the_unit, bit_of, int_of, handle_of, Pattern, one, several, Form, tupling, meas, gate, call, Place, Op}
 use Rattle.calculus.specs.Syntax.{Term, give, name, build, bind, mut, set, using_in, if_else, Terms, no_terms, ◌∷ˢ◌}
 use Rattle.calculus.specs.Rules.{nth}
@@ -26,7 +26,7 @@ pub record Code : Type 0 where
   -- how many nodes there are, and how many parts
   pub size : ℕ
   pub parts : ℕ
-  pub past : (i : ℕ) → size ≤ i → node i ≡ NoTerm
+  pub past : (i : ℕ) → size ≤ i → node i ≡ NoTerm false
 
 abbrev pub seen : Leaf → Value
 seen UnitLeaf = the_unit
@@ -50,7 +50,7 @@ within r = range r.first (r.end - r.first)
 
 -- the entry that a node of a pattern means: a new name's own, or that of the name to be set
 abbrev pub meant : ℕ → Node → ℕ
-meant at NoTerm = at
+meant at (NoTerm m) = at
 meant at (Target x) = x
 meant at (Constant l) = at
 meant at (Use x) = at
@@ -75,7 +75,7 @@ bind_term Set p xs t u = set p (pattern (map var xs)) t u
 
 -- the names are entries of their own, all bound by mut or none
 abbrev pub Own : Code → Bool → Range → Type 0
-Own P m r = (x : ℕ) → r.first ≤ x → x < r.end → (P.node x ≡ NoTerm) × (P.mut_name x ≡ m)
+Own P m r = (x : ℕ) → r.first ≤ x → x < r.end → (P.node x ≡ NoTerm m) × (P.mut_name x ≡ m)
 
 -- a let and a mut bind names of their own; a set's are different
 abbrev pub Named : Code → Binder → Range → Type 0

@@ -4,9 +4,9 @@ use Rattle.std.proofs.Math.Option.{Option, none, some}
 use Rattle.grammar.specs.declared.tree.Range.{Range}
 use Rattle.grammar.specs.declared.tree.Binder.{Binder}
 use Rattle.grammar.specs.declared.tree.Binder.TheVariants.{Let, Mut, Set}
-use Rattle.rules.specs.declared.program.Act.{Act}
-use Rattle.rules.specs.declared.program.Node.{Node}
-use Rattle.rules.specs.declared.program.Node.TheVariants.{Built, Bind, If}
+use Rattle.programs.specs.declared.program.Act.{Act}
+use Rattle.programs.specs.declared.program.Node.{Node}
+use Rattle.programs.specs.declared.program.Node.TheVariants.{Built, Bind, If}
 use Rattle.calculus.specs.Syntax.{Ty, Name, var, entry, handle, Value, Values, no_values, ◌∷ᵛ◌, Pattern, one, several, Form, Place, Op}
 use Rattle.calculus.specs.Syntax.{Term, give, done, name, build, bind, mut, set, using_in, if_else, Terms, no_terms, ◌∷ˢ◌}
 use Rattle.calculus.specs.Rules.{Uses, Scope, Has, nth}

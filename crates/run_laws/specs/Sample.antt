@@ -1,12 +1,12 @@
 -- A listing and its program: an operation that measures its qbit, and
 -- run using q in let b = f (q) in mut y = 0 in set y = b in y
-use Rattle.std.specs.Prelude.{◌≡◌, ℕ, ◌≤◌, false, List, [], ◌∷◌, nat_eq, slice_index, slice_index_or}
+use Rattle.std.specs.Prelude.{◌≡◌, ℕ, ◌≤◌, true, false, List, [], ◌∷◌, nat_eq, slice_index, slice_index_or}
 use Rattle.grammar.specs.declared.tree.Range.{Range}
 use Rattle.grammar.specs.declared.tree.Binder.TheVariants.{Let, Mut, Set}
-use Rattle.rules.specs.declared.program.Leaf.TheVariants.{Bit}
-use Rattle.rules.specs.declared.program.Act.TheVariants.{Meas, Call}
-use Rattle.rules.specs.declared.program.Node.{Node}
-use Rattle.rules.specs.declared.program.Node.TheVariants.{Place as NoTerm, Target, Constant, Use, Built, Bind, Using}
+use Rattle.programs.specs.declared.program.Leaf.TheVariants.{Bit}
+use Rattle.programs.specs.declared.program.Act.TheVariants.{Meas, Call}
+use Rattle.programs.specs.declared.program.Node.{Node}
+use Rattle.programs.specs.declared.program.Node.TheVariants.{Place as NoTerm, Target, Constant, Use, Built, Bind, Using}
 use Rattle.calculus.specs.Syntax.{bit, qbit, no_types, ◌∷ᵗ◌, var, bit_of, one, meas, call, Op, Term, give, name, build, bind, mut, set, using_in, no_terms, ◌∷ˢ◌}
 use Rattle.run_laws.specs.Whole.{Compiled}
 
@@ -15,15 +15,15 @@ from_to a z = record { first = a; end = z }
 
 abbrev pub sample_nodes : List Node
 sample_nodes =
-    Use 2 ∷ Built Meas (from_to 0 1) ∷ NoTerm
+    Use 2 ∷ Built Meas (from_to 0 1) ∷ NoTerm false
     ∷ Use 14 ∷ Built (Call 0) (from_to 1 2) ∷ Constant (Bit false) ∷ Use 12 ∷ Use 10
     ∷ Target 10 ∷ Bind Set (from_to 8 9) 6 7
-    ∷ NoTerm ∷ Bind Mut (from_to 10 11) 5 9
-    ∷ NoTerm ∷ Bind Let (from_to 12 13) 4 11
-    ∷ NoTerm ∷ Using (from_to 14 15) 13 ∷ []
+    ∷ NoTerm true ∷ Bind Mut (from_to 10 11) 5 9
+    ∷ NoTerm false ∷ Bind Let (from_to 12 13) 4 11
+    ∷ NoTerm false ∷ Using (from_to 14 15) 13 ∷ []
 
 abbrev pub sample_node : ℕ → Node
-sample_node i = slice_index_or sample_nodes i NoTerm
+sample_node i = slice_index_or sample_nodes i (NoTerm false)
 
 abbrev pub sample_op : Op
 sample_op = record { params = 2 ∷ []; types = qbit ∷ᵗ no_types; result = bit; body = build 1 meas (name 0 (var 2) ∷ˢ no_terms) }
@@ -34,7 +34,7 @@ sample_run = using_in 15 (one 14)
 
 -- here the place of each node is its own number
 abbrev pub Sample : Type 0
-Sample = (past : (i : ℕ) → 16 ≤ i → sample_node i ≡ NoTerm) × Compiled (sample_op ∷ []) sample_run bit (record {
+Sample = (past : (i : ℕ) → 16 ≤ i → sample_node i ≡ NoTerm false) × Compiled (sample_op ∷ []) sample_run bit (record {
   node = sample_node;
   part = λ i. slice_index (0 ∷ 3 ∷ []) i;
   place = λ i. i;

@@ -1,8 +1,8 @@
 -- Whole runs: how a state stands to the run of a listing.
 use Rattle.std.specs.Prelude.{◌≡◌, ℕ, ◌≤◌, false, List, map, length}
 use Rattle.machine.specs.Model.{Model, ordered, Makes}
-use Rattle.rules.specs.declared.program.Node.{Node}
-use Rattle.rules.specs.declared.program.Node.TheVariants.{Place as NoTerm, Target, Constant, Use, Built, Bind, Using, If}
+use Rattle.programs.specs.declared.program.Node.{Node}
+use Rattle.programs.specs.declared.program.Node.TheVariants.{Place as NoTerm, Target, Constant, Use, Built, Bind, Using, If}
 use Rattle.calculus.specs.Syntax.{Ty, Value, Form, Place, Op, Term}
 use Rattle.calculus.specs.Rules.{nothing, nowhere, Has, Well}
 use Rattle.calculus.specs.Steps.{Table, Event}
@@ -58,7 +58,7 @@ ActsOn P T fs i form n all m T' fs' vals' f' m' = (ops : List Op) (start : Term)
 
 -- the nodes that are terms, and those that wait for a part
 abbrev pub IsTerm : Node → Type 0
-IsTerm NoTerm = ⊥
+IsTerm (NoTerm m) = ⊥
 IsTerm (Target x) = ⊥
 IsTerm (Constant l) = Unit {0}
 IsTerm (Use x) = Unit {0}
@@ -68,7 +68,7 @@ IsTerm (Using r b) = Unit {0}
 IsTerm (If c y n) = Unit {0}
 
 abbrev pub HasParts : Node → Type 0
-HasParts NoTerm = ⊥
+HasParts (NoTerm m) = ⊥
 HasParts (Target x) = ⊥
 HasParts (Constant l) = ⊥
 HasParts (Use x) = ⊥

@@ -1,6 +1,6 @@
 -- The items of a value: a leaf, or a tuple followed by its parts.
 use Rattle.std.specs.Prelude.{ℕ, zero, suc, ◌+◌, ◌<◌, Bool, false, List, [], ◌∷◌, take, Some, None, Option}
-use Rattle.rules.specs.declared.program.Leaf.TheVariants as leaf
+use Rattle.programs.specs.declared.program.Leaf.TheVariants as leaf
 use Rattle.runs.specs.declared.value.Item.{Item}
 use Rattle.runs.specs.declared.value.Item.TheVariants.{Leaf, Tuple}
 

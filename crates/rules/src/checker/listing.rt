@@ -1,152 +1,87 @@
 // The walk over a listing: its operations from the top, then the term to run.
-use super::Checker;
-use super::names::count;
+use super::Walk;
 use crate::fault::RuleFault;
-use crate::program::{Node, Program, Root};
-use crate::search::{find, text_of};
-use crate::types::{UNIT, same};
-use grammar::tree::{Name, Operation, Parameter, QBIT, Range, Tree};
+use crate::program::{Entry, Node, Root};
+use crate::types::{UNIT, within};
+use grammar::tree::{Operation, Parameter, QBIT};
+use programs::program::Placed;
 
-pub(super) fn parameter_at(tree: &Tree, at: usize) -> Option<Parameter> {
-    tree.parameters().get(at).copied()
-}
-
-pub(super) fn operation_at(tree: &Tree, at: usize) -> Option<Operation> {
-    tree.operations().get(at).copied()
-}
-
-// Is a name among the parameters from `first` on, before `end`?
-fn is_earlier(tree: &Tree, text: &[u8], first: usize, end: usize, name: Name) -> bool {
-    let parameters = tree.parameters();
-    if first <= end && end <= parameters.len() {
-        find(&parameters[first..end], text, text_of(text, name)).is_some()
-    } else {
-        false
-    }
-}
-
-// Is a name that of an operation before `end`?
-fn is_declared(tree: &Tree, text: &[u8], end: usize, name: Name) -> bool {
-    let operations = tree.operations();
-    if end <= operations.len() {
-        find(&operations[..end], text, text_of(text, name)).is_some()
-    } else {
-        false
-    }
-}
-
-impl Checker {
+impl<'a> Walk<'a> {
     // An entry for each node.
-    fn fill(&mut self, tree: &Tree) -> Result<(), RuleFault> {
-        for at in 0..tree.size() {
-            self.nodes.push(Node::Place)?;
-            self.places.push(tree.node(at).place)?;
-            self.types.push(UNIT)?;
+    fn fill(&mut self) -> Result<(), RuleFault> {
+        for node in self.tree.nodes() {
+            let placed = Placed {
+                place: node.place,
+                node: Node::Place(false),
+            };
+            self.checker.entries.push(Entry {
+                placed,
+                typed: UNIT,
+            })?;
         }
         Ok(())
     }
 
+    pub(super) fn parameters(&self, operation: Operation) -> &'a [Parameter] {
+        within(self.tree.parameters(), operation.parameters)
+    }
+
     // The names of the parameters are new, and their written types have few leaves.
-    fn ask_parameters(&mut self, text: &[u8], tree: &Tree, range: Range) -> Result<(), RuleFault> {
-        for at in range.first..range.end {
-            let Some(parameter) = parameter_at(tree, at) else {
-                return Ok(());
-            };
-            let name = parameter.name;
-            if !self.is_new(text, tree, name) || is_earlier(tree, text, range.first, at, name) {
-                return Err(RuleFault::Taken { place: name.place });
-            }
-            self.written(tree, parameter.written)?;
+    fn ask_parameters(&mut self, operation: Operation) -> Result<(), RuleFault> {
+        let parameters = self.parameters(operation);
+        for (i, parameter) in parameters.iter().enumerate() {
+            self.ask_new(&parameters[..i], parameter.name)?;
+            self.written(parameter.written)?;
         }
         Ok(())
     }
 
     // The parameters come into scope.
-    fn bind_parameters(&mut self, tree: &Tree, operation: Operation) -> Result<(), RuleFault> {
-        let mut entry = operation.names.first;
-        for at in operation.parameters.first..operation.parameters.end {
-            let Some(parameter) = parameter_at(tree, at) else {
-                return Ok(());
-            };
+    fn bind_parameters(&mut self, operation: Operation) -> Result<(), RuleFault> {
+        let parameters = self.parameters(operation);
+        for (parameter, entry) in parameters.iter().zip(operation.names.numbers()) {
             let typed = self.type_at(parameter.written);
             self.bind(parameter.name, entry, typed, false)?;
-            entry = entry.saturating_add(1);
         }
         Ok(())
     }
 
-    fn operation(
-        &mut self,
-        text: &[u8],
-        tree: &Tree,
-        at: usize,
-        operation: Operation,
-    ) -> Result<(), RuleFault> {
-        if is_declared(tree, text, at, operation.name) {
-            return Err(RuleFault::Taken {
-                place: operation.name.place,
-            });
+    fn operation(&mut self, at: usize, operation: Operation) -> Result<(), RuleFault> {
+        let Operation {
+            place,
+            name,
+            names,
+            result,
+            body,
+            ..
+        } = operation;
+        if self
+            .find(self.tree.operations(), name)
+            .is_some_and(|f| f < at)
+        {
+            return Err(RuleFault::Taken { place: name.place });
         }
-        self.above = at;
-        self.ask_parameters(text, tree, operation.parameters)?;
-        self.written(tree, operation.result)?;
-        self.bind_parameters(tree, operation)?;
-        self.term(text, tree, operation.body)?;
+        self.checker.above = at;
+        self.ask_parameters(operation)?;
+        self.written(result)?;
+        self.bind_parameters(operation)?;
+        self.term(body)?;
         self.close(0)?;
-        if !same(
-            self.types.as_slice(),
-            tree.parts(),
-            operation.body,
-            operation.result,
-        ) {
-            return Err(RuleFault::Misfit {
-                place: operation.place,
-            });
+        if !self.types().same(body, result) {
+            return Err(RuleFault::Misfit { place });
         }
-        self.roots.push(Root {
-            body: operation.body,
-            names: operation.names,
-        })?;
+        self.checker.roots.push(Root { body, names })?;
         Ok(())
     }
 
-    fn listing(&mut self, text: &[u8], tree: &Tree) -> Result<(), RuleFault> {
-        self.fill(tree)?;
-        self.written(tree, QBIT)?;
-        let count = tree.operations().len();
-        for at in 0..count {
-            if let Some(operation) = operation_at(tree, at) {
-                self.operation(text, tree, at, operation)?;
-            }
+    pub(super) fn listing(&mut self) -> Result<(), RuleFault> {
+        self.fill()?;
+        self.written(QBIT)?;
+        let operations = self.tree.operations();
+        for (at, operation) in operations.iter().enumerate() {
+            self.operation(at, *operation)?;
         }
-        self.above = count;
-        self.term(text, tree, tree.run_term())
+        self.checker.above = operations.len();
+        self.term(self.tree.run_term())
     }
-}
-
-// The program of a listing that follows the rules.
-pub fn check(text: &[u8], tree: Tree, mut checker: Checker) -> Result<Program, RuleFault> {
-    checker.listing(text, &tree)?;
-    let Checker {
-        nodes,
-        places,
-        types,
-        roots,
-        scope: _,
-        trail: _,
-        floor: _,
-        above: _,
-    } = checker;
-    let run = tree.run_term();
-    let run_place = tree.run_place();
-    let parts = tree.into_parts();
-    Ok(Program {
-        nodes,
-        parts,
-        places,
-        types,
-        roots,
-        run,
-        run_place,
-    })
 }

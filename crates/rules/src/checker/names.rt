@@ -1,98 +1,78 @@
 // The questions about names: new, in scope, unspent, and spent at the end.
-use super::{Binding, Checker};
+use super::{Binding, Checker, Walk};
 use crate::fault::RuleFault;
 use crate::program::Node;
-use crate::search::{find, name_of, text_of};
-use crate::types::{QBIT, Typed, part_at, same, type_at};
-use grammar::tree::{Binder, Name, Range, Tree};
+use crate::search::{Named, name_of};
+use crate::types::{QBIT, Typed, within};
+use grammar::tree::{self, Binder, Name, Range};
 
-// Is a name among the nodes from `first` on, before `end`?
-pub(super) fn is_among(tree: &Tree, text: &[u8], first: usize, end: usize, name: Name) -> bool {
-    let nodes = tree.nodes();
-    if first <= end && end <= nodes.len() {
-        find(&nodes[first..end], text, text_of(text, name)).is_some()
-    } else {
-        false
-    }
-}
-
-impl Checker {
-    // The place in the scope of a name.
-    pub(super) fn bound(&self, text: &[u8], name: Name) -> Option<usize> {
-        find(self.scope.as_slice(), text, text_of(text, name))
+impl Walk<'_> {
+    // The name of a node of a pattern.
+    fn name(&self, at: usize) -> Name {
+        name_of(self.tree.node(at))
     }
 
-    // Is a bound name no operation and no name in scope?
-    pub(super) fn is_new(&self, text: &[u8], tree: &Tree, name: Name) -> bool {
-        find(tree.operations(), text, text_of(text, name)).is_none()
-            && self.bound(text, name).is_none()
+    // A name in scope, with its place there.
+    fn bound(&self, name: Name) -> Option<(usize, Binding)> {
+        let at = self.find(self.checker.scope.as_slice(), name)?;
+        let binding = self.checker.scope.get(at)?;
+        Some((at, *binding))
     }
 
-    // The names of a pattern are new.
-    pub(super) fn ask_new(&self, text: &[u8], tree: &Tree, names: Range) -> Result<(), RuleFault> {
-        for at in names.first..names.end {
-            let name = name_of(tree.node(at));
-            if !self.is_new(text, tree, name) || is_among(tree, text, names.first, at, name) {
-                return Err(RuleFault::Taken { place: name.place });
-            }
+    // A bound name is no operation, no name in scope and none of those before it.
+    pub(super) fn ask_new<E: Named>(&self, before: &[E], name: Name) -> Result<(), RuleFault> {
+        if self.find(self.tree.operations(), name).is_some()
+            || self.bound(name).is_some()
+            || self.find(before, name).is_some()
+        {
+            return Err(RuleFault::Taken { place: name.place });
         }
         Ok(())
     }
 
-    // The names of a set pattern are different, in scope, and bound by mut.
-    pub(super) fn ask_set(
-        &mut self,
-        text: &[u8],
-        tree: &Tree,
-        names: Range,
-    ) -> Result<(), RuleFault> {
-        for at in names.first..names.end {
-            let name = name_of(tree.node(at));
+    // The names of a pattern that stand before one of them.
+    fn before(&self, names: Range, at: usize) -> &[tree::Node] {
+        within(self.tree.nodes(), Range { end: at, ..names })
+    }
+
+    // The names of a pattern are new.
+    pub(super) fn ask_all_new(&self, names: Range) -> Result<(), RuleFault> {
+        for at in names.numbers() {
+            self.ask_new(self.before(names, at), self.name(at))?;
+        }
+        Ok(())
+    }
+
+    // The names of a set are different, in scope, and bound by mut.
+    pub(super) fn ask_set(&mut self, names: Range) -> Result<(), RuleFault> {
+        for at in names.numbers() {
+            let name = self.name(at);
             let place = name.place;
-            if is_among(tree, text, names.first, at, name) {
+            if self.find(self.before(names, at), name).is_some() {
                 return Err(RuleFault::Taken { place });
             }
-            let Some(found) = self.bound(text, name) else {
-                return Err(RuleFault::Unknown { place });
-            };
-            let binding = self.binding(found);
+            let (_, binding) = self.bound(name).ok_or(RuleFault::Unknown { place })?;
             if !binding.settable {
                 return Err(RuleFault::Fixed { place });
             }
             let typed = self.type_at(binding.entry);
-            self.put(at, Node::Target(binding.entry), typed);
+            self.checker.put(at, Node::Target(binding.entry), typed);
         }
         Ok(())
     }
 
     // A name is used.
-    pub(super) fn use_name(
-        &mut self,
-        text: &[u8],
-        node: usize,
-        name: Name,
-    ) -> Result<(), RuleFault> {
-        let Some(at) = self.bound(text, name) else {
-            return Err(RuleFault::Unknown { place: name.place });
-        };
-        let entry = self.binding(at).entry;
-        let typed = self.type_at(entry);
+    pub(super) fn use_name(&mut self, node: usize, name: Name) -> Result<(), RuleFault> {
+        let place = name.place;
+        let (at, binding) = self.bound(name).ok_or(RuleFault::Unknown { place })?;
+        let typed = self.type_at(binding.entry);
         if typed.is_linear() {
-            self.spend(at, name.place)?;
+            if binding.spent {
+                return Err(RuleFault::Spent { place });
+            }
+            self.checker.spend(at, place)?;
         }
-        self.put(node, Node::Use(entry), typed);
-        Ok(())
-    }
-
-    fn spend(&mut self, at: usize, place: usize) -> Result<(), RuleFault> {
-        if self.binding(at).spent {
-            return Err(RuleFault::Spent { place });
-        }
-        if at < self.floor {
-            return Err(RuleFault::Outside { place });
-        }
-        self.trail.push(at)?;
-        self.mark(at, true);
+        self.checker.put(node, Node::Use(binding.entry), typed);
         Ok(())
     }
 
@@ -104,8 +84,8 @@ impl Checker {
         typed: Typed,
         settable: bool,
     ) -> Result<(), RuleFault> {
-        self.put(entry, Node::Place, typed);
-        self.scope.push(Binding {
+        self.checker.put(entry, Node::Place(settable), typed);
+        self.checker.scope.push(Binding {
             name,
             entry,
             settable,
@@ -115,131 +95,117 @@ impl Checker {
     }
 
     // The names of a using come into scope as qbits.
-    pub(super) fn bind_qbits(&mut self, tree: &Tree, names: Range) -> Result<(), RuleFault> {
-        for at in names.first..names.end {
-            self.bind(name_of(tree.node(at)), at, QBIT, false)?;
+    pub(super) fn bind_qbits(&mut self, names: Range) -> Result<(), RuleFault> {
+        for at in names.numbers() {
+            self.bind(self.name(at), at, QBIT, false)?;
         }
         Ok(())
     }
 
-    // The names of a pattern come into scope with the type of the right side, or its parts.
-    pub(super) fn bind_pattern(
+    // The names of a let or a mut come into scope with the type of the right side, or its parts; those of a set are there.
+    pub(super) fn bind_names(
         &mut self,
-        tree: &Tree,
+        binder: Binder,
         names: Range,
-        typed: Typed,
-        settable: bool,
+        right: usize,
     ) -> Result<(), RuleFault> {
-        if count(names) == 1 {
-            return self.bind(
-                name_of(tree.node(names.first)),
-                names.first,
-                typed,
-                settable,
-            );
+        if matches!(binder, Binder::Set) {
+            return Ok(());
+        }
+        let settable = matches!(binder, Binder::Mut);
+        let typed = self.type_at(right);
+        if names.len() == 1 {
+            return self.bind(self.name(names.first), names.first, typed, settable);
         }
         let Some(parts) = typed.parts() else {
             return Ok(());
         };
-        let mut part = parts.end;
-        for at in names.first..names.end {
-            part = part.saturating_sub(1);
-            let typed = self.type_at(part_at(tree.parts(), part));
-            self.bind(name_of(tree.node(at)), at, typed, settable)?;
+        for (at, part) in names.numbers().zip(self.parts_of(parts).iter().rev()) {
+            let typed = self.type_at(*part);
+            self.bind(self.name(at), at, typed, settable)?;
         }
         Ok(())
     }
 
-    // Does the type of a right side fit a pattern of new names?
-    pub(super) fn fits_pattern(&self, binder: Binder, names: Range, typed: Typed) -> bool {
-        if matches!(binder, Binder::Mut) && typed.is_linear() {
-            return false;
-        }
-        if count(names) == 1 {
-            return true;
-        }
-        match typed.parts() {
-            Some(parts) => count(parts) == count(names),
-            None => false,
+    // Does the type of a right side fit the names?
+    pub(super) fn fits(&self, binder: Binder, names: Range, right: usize) -> bool {
+        let typed = self.type_at(right);
+        match binder {
+            Binder::Set => self.fits_set(names, right),
+            Binder::Mut if typed.is_linear() => false,
+            _ => names.len() == 1
+                || typed
+                    .parts()
+                    .is_some_and(|parts| parts.len() == names.len()),
         }
     }
 
     // Does the type of a right side fit the names that it sets?
-    pub(super) fn fits_set(&self, tree: &Tree, names: Range, right: usize) -> bool {
-        if count(names) == 1 {
-            return same(
-                self.types.as_slice(),
-                tree.parts(),
-                right,
-                self.target(names.first),
-            );
+    fn fits_set(&self, names: Range, right: usize) -> bool {
+        if names.len() == 1 {
+            return self.fits_target(names.first, right);
         }
         let Some(parts) = self.type_at(right).parts() else {
             return false;
         };
-        if count(parts) != count(names) {
-            return false;
+        parts.len() == names.len()
+            && names
+                .numbers()
+                .zip(self.parts_of(parts).iter().rev())
+                .all(|(at, part)| self.fits_target(at, *part))
+    }
+
+    // Has a part of a right side the type of the name that it sets?
+    fn fits_target(&self, at: usize, part: usize) -> bool {
+        match self.checker.entries.get(at).map(|entry| entry.placed.node) {
+            Some(Node::Target(entry)) => self.types().same(part, entry),
+            _ => false,
         }
-        let mut part = parts.end;
-        for at in names.first..names.end {
-            part = part.saturating_sub(1);
-            if !same(
-                self.types.as_slice(),
-                tree.parts(),
-                part_at(tree.parts(), part),
-                self.target(at),
-            ) {
-                return false;
-            }
-        }
-        true
     }
 
     // The names from `start` on leave the scope: the linear ones are spent.
     pub(super) fn close(&mut self, start: usize) -> Result<(), RuleFault> {
-        for at in start..self.scope.len() {
-            let binding = self.binding(at);
-            if self.type_at(binding.entry).is_linear() && !binding.spent {
+        for binding in self.checker.scope.iter().skip(start) {
+            if !binding.spent && self.type_at(binding.entry).is_linear() {
                 return Err(RuleFault::Unspent {
                     place: binding.name.place,
                 });
             }
         }
-        self.scope.truncate(start);
+        self.checker.scope.truncate(start);
+        Ok(())
+    }
+}
+
+impl Checker {
+    // An unspent linear name is spent.
+    fn spend(&mut self, at: usize, place: usize) -> Result<(), RuleFault> {
+        if at < self.floor {
+            return Err(RuleFault::Outside { place });
+        }
+        self.trail.push(at)?;
+        if let Some(binding) = self.scope.get_mut(at) {
+            binding.spent = true;
+        }
         Ok(())
     }
 
     // The names below `outside` that were spent since `start` are unspent again.
     pub(super) fn restore(&mut self, start: usize, outside: usize) {
-        for at in start..self.trail.len() {
-            let name = part_at(self.trail.as_slice(), at);
-            if name < outside {
-                self.mark(name, false);
+        for at in self.trail.iter().skip(start).filter(|at| **at < outside) {
+            if let Some(binding) = self.scope.get_mut(*at) {
+                binding.spent = false;
             }
         }
     }
 
     // Are the names below `outside` that were spent from `start` to `middle` those that were spent from there on?
     pub(super) fn spent_alike(&self, start: usize, middle: usize, outside: usize) -> bool {
-        let mut first = 0usize;
-        let mut second = 0usize;
-        for at in start..self.trail.len() {
-            let name = part_at(self.trail.as_slice(), at);
-            if name < outside {
-                if !self.binding(name).spent {
-                    return false;
-                }
-                if at < middle {
-                    first = first.saturating_add(1);
-                } else {
-                    second = second.saturating_add(1);
-                }
-            }
-        }
-        first == second
+        let outer = |at: &&usize| **at < outside;
+        let spent = |at: &usize| self.scope.get(*at).is_some_and(|binding| binding.spent);
+        let first = self.trail.iter().take(middle).skip(start).filter(outer);
+        let second = self.trail.iter().skip(middle).filter(outer);
+        let mut both = self.trail.iter().skip(start).filter(outer);
+        both.all(spent) && first.count() == second.count()
     }
-}
-
-pub(super) fn count(range: Range) -> usize {
-    range.end.saturating_sub(range.first)
 }
