@@ -1,8 +1,8 @@
 -- The exits of the functions that read terms.
-use Rattle.std.proofs.Common.{◌≡◌, ℕ, ◌+◌, ◌<◌, ◌≤◌, true, false, List, [], ◌∷◌, ◌++◌, length, drop, Ok, Err, vec_items, vec_len, Result, Vec, sym, refl, ap, ◌∙◌, subst, subst₂, arith}
+use Rattle.std.proofs.Common.{◌≡◌, ℕ, ◌+◌, ◌<◌, ◌≤◌, true, false, List, [], ◌∷◌, ◌++◌, length, drop, Ok, Err, Some, None, vec_items, vec_len, Result, Vec, sym, refl, ap, ◌∙◌, subst, subst₂, arith}
 use Rattle.std.specs.declared.alloc.Global.{Global}
 use Rattle.words.specs.declared.token.Kind.{Kind}
-use Rattle.words.specs.declared.token.Kind.TheVariants.{Open, Close, Comma, Let, Mut, Set, Unit, Bit, Int, Qbit}
+use Rattle.words.specs.declared.token.Kind.TheVariants.{Open, Close, Comma, Let, Mut, Set, Using, If, Unit, Bit, Int, Qbit}
 use Rattle.words.specs.declared.token.Word.{Word}
 use Rattle.words.specs.declared.token.Word.TheVariants.{Name}
 use Rattle.syntax.specs.Trees as s
@@ -18,9 +18,10 @@ use Rattle.grammar.specs.declared.parse.Stop.{Stop}
 use Rattle.grammar.specs.declared.parse.Read.{Read}
 use Rattle.grammar.specs.Arena.{Node, At, NamesAt, no_names_at, Stands, PartsAt, no_parts_at, parts_at, TypesAt, no_types_at, types_at, TypeAt}
 use Rattle.grammar.specs.Parsing.{Grows, nodes_of, parts_of}
-use Rattle.grammar.specs.Reading.{Quiet, Progress, Answers, Expected, IsWord, IsName, keyword, Made, NameRead, MoreNamesRead, TermRead, PlainRead, TermsRead, MoreRead, TypesRead, MoreTypesRead}
+use Rattle.grammar.specs.Reading.{Quiet, Progress, Answers, Expected, IsWord, IsName, kind_of, keyword, Made, NameRead, MoreNamesRead, TermRead, PlainRead, TermsRead, MoreRead, TypesRead, MoreTypesRead}
 use Rattle.grammar.proofs.Growth.{Path, begins, goes, reads, adds, ends, fails, misses, lacks, base_le, grows_none, grows_then, quiet_all, quiet_then}
 use Rattle.grammar.proofs.Arenas.{names_join, within, type_within, parts_wider, types_wider}
+use Rattle.grammar.proofs.Tests.{not_headed, unheaded}
 use Rattle.grammar.proofs.Productions.{names_none, names_next, more_there, more_types_there}
 
 pub sized : {X : Type 0} (v : Vec X Global) → vec_len v ≡ length (vec_items v)
@@ -51,6 +52,12 @@ finish R S n (Err e) p l o h f = lacks e p l h
 pub plain_by : {ws : List Word} {at : ℕ} (t u : Tree) (r : Result Read Stop) → Way m.term ws at (m.plain ∷ []) at → PlainRead ws at t u r → TermRead ws at t u r
 plain_by {at = at} t u (Ok q) a h = (ends (goes (begins t at a (omega arith) (omega arith)) h.0), h.1, (h.2.0, g.plain_term h.2.1, h.2.2), h.3)
 plain_by {at = at} t u (Err e) a h = fails e (begins t at a (omega arith) (omega arith)) h
+
+pub plain_headed : (ws : List Word) (at : ℕ) (k : Kind) → at ≤ length ws → Some k ≡ kind_of (drop at ws) → (k ≡ Let → ⊥) → (k ≡ Mut → ⊥) → (k ≡ Set → ⊥) → (k ≡ Using → ⊥) → (k ≡ If → ⊥) → Way m.term ws at (m.plain ∷ []) at
+plain_headed ws at k l e a b c d f = w.plain_only ws at l (not_headed k Let _ e a) (not_headed k Mut _ e b) (not_headed k Set _ e c) (not_headed k Using _ e d) (not_headed k If _ e f)
+
+pub plain_unheaded : (ws : List Word) (at : ℕ) → at ≤ length ws → None ≡ kind_of (drop at ws) → Way m.term ws at (m.plain ∷ []) at
+plain_unheaded ws at l e = w.plain_only ws at l (unheaded Let _ e) (unheaded Mut _ e) (unheaded Set _ e) (unheaded Using _ e) (unheaded If _ e)
 
 pub more_by : (ws : List Word) (at : ℕ) (t u : Tree) (r : Result Rattle.grammar.specs.declared.parse.Listed.Listed Stop) → heads Comma (drop at ws) ≡ true → TermsRead ws (at + 1) t u r → MoreRead ws at t u r
 more_by ws at t u (Ok q) e h =

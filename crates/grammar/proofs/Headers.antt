@@ -15,11 +15,12 @@ use Rattle.grammar.specs.declared.tree.Construct as constructs
 use Rattle.grammar.specs.declared.tree.Parameter as parameters
 use Rattle.grammar.specs.declared.tree.Operation as operations
 use Rattle.grammar.specs.declared.tree.Tree.{Tree}
+use Rattle.grammar.specs.declared.parse.GrammarFault.{GrammarFault}
 use Rattle.grammar.specs.declared.parse.Stop.{Stop}
 use Rattle.grammar.specs.declared.parse.Stop.TheVariants as stop
 use Rattle.grammar.specs.Arena.{Node, At, node, Spells, NamesAt, no_names_at, names_at, TypeAt, ParametersAt, no_parameters_at, parameters_at, OperationAt, OperationsAt, no_operations_at, operations_at}
 use Rattle.grammar.specs.Parsing.{Kept, Grew, Grows, Parsed, nodes_of, parts_of, parameters_of, place_or}
-use Rattle.grammar.specs.Reading.{TermRead, SignatureRead, Halts, Lacks, Expected, Few, Added, ParametersNamed, ParameterRead, MoreParametersRead, ParametersAreRead, OperationRead, ListingRead}
+use Rattle.grammar.specs.Reading.{TermRead, SignatureRead, Halts, Lacks, Expected, Few, Added, ParametersNamed, ParameterRead, MoreParametersRead, ParametersAreRead, OperationRead, ListingRead, fault_of}
 use Rattle.grammar.proofs.Growth.{Path, begins, goes, reads, ends, fails, misses, grew_none, grew_then, kept_all, kept_then, grows_none, grows_then}
 use Rattle.grammar.proofs.Arenas.{parameters_kept, at_kept, parameters_join, operations_join}
 use Rattle.grammar.proofs.Productions.{running, no_more_parameters, more_parameters_there, no_parameters_there}
@@ -143,6 +144,18 @@ pub whole : (ws : List Word) (n i : ℕ) (t u : Tree) → length ws ≤ i → Li
 whole ws n i t u l h =
     let it : g.Listing ws h.2.0 = subst (λ v. g.Lists ws h.2.0.operations h.2.0.run_place h.2.0.main v) (drop_all i ws l) h.2.1 in
     (grows_then h.0.grows (grows_none u 0 0 (omega arith)) 0 (length ws) (omega (arith, h.0.way.within)), (h.2.0, it, (λ k o. one_tree o it), h.2.2))
+
+-- a listing that was not read is refused as its stop says
+refused_by : (ws : List Word) (n : ℕ) (t u : Tree) (d : Stop) → Halts m.listing ws 0 t d → Parsed ws n t u (Err (fault_of ws n d))
+refused_by ws n t u (stop.At p) h = (p, w.listing_stops ws h, refl)
+refused_by ws n t u stop.Memory h = h
+
+pub not_whole : (ws : List Word) (n : ℕ) (t u : Tree) (d : Stop) (f : GrammarFault) → Halts m.listing ws 0 t d → f ≡ fault_of ws n d → Parsed ws n t u (Err f)
+not_whole ws n t u d f h e = subst (λ z. Parsed ws n t u (Err z)) (sym e) (refused_by ws n t u d h)
+
+-- more words stand after it
+pub goes_on : (ws : List Word) (n i : ℕ) (t u : Tree) (f : GrammarFault) → i < length ws → ListingRead ws 0 t u (Ok i) → f ≡ fault_of ws n (stop.At i) → Parsed ws n t u (Err f)
+goes_on ws n i t u f l h e = subst (λ z. Parsed ws n t u (Err z)) (sym e) (i, w.listing_ends ws h.0.way l, refl)
 
 kept_same : {X : Type 0} {v w : Vec X Global} → w ≡ v → Kept (vec_items v) (vec_items w)
 kept_same {v = v} e = subst (λ w. Kept (vec_items v) (vec_items w)) (sym e) (kept_all (vec_items v))

@@ -1,31 +1,34 @@
 -- What the functions that read the parts of a listing answer.
-use Rattle.std.specs.Prelude.{◌≡◌, ℕ, ◌+◌, ◌<◌, ◌≤◌, List, [], ◌∷◌, map, length, drop, Ok, Err, Result, Vec}
+use Rattle.std.specs.Prelude.{◌≡◌, ℕ, ◌+◌, ◌<◌, ◌≤◌, List, [], ◌∷◌, map, length, drop, Ok, Err, Some, None, Option, Result, Vec}
 use Rattle.std.specs.declared.alloc.Global.{Global}
 use Rattle.machine.specs.declared.order.Gate as gates
 use Rattle.words.specs.declared.token.Kind.{Kind}
-use Rattle.words.specs.declared.token.Kind.TheVariants.{Let, Mut, Set}
+use Rattle.words.specs.declared.token.Kind.TheVariants.{Open, Comma, Let, Mut, Set}
 use Rattle.words.specs.declared.token.Word.{Word}
-use Rattle.words.specs.declared.token.Word.TheVariants.{Name, Gate, Fixed}
+use Rattle.words.specs.declared.token.Word.TheVariants.{Name, Number, Gate, Fixed}
 use Rattle.syntax.specs.Trees as s
 use Rattle.syntax.specs.Grammar as g
 use Rattle.syntax.specs.Grammar.{Text, identifier}
 use Rattle.syntax.specs.Machine as m
 use Rattle.syntax.specs.Machine.{Want, this, Way, Stops}
 use Rattle.grammar.specs.declared.tree.Name as names
+use Rattle.grammar.specs.declared.tree.Basic as basics
 use Rattle.grammar.specs.declared.tree.Binder as binders
 use Rattle.grammar.specs.declared.tree.Form as forms
 use Rattle.grammar.specs.declared.tree.Construct as constructs
 use Rattle.grammar.specs.declared.tree.Node as entries
 use Rattle.grammar.specs.declared.tree.Operation as operations
 use Rattle.grammar.specs.declared.tree.Tree.{Tree}
+use Rattle.grammar.specs.declared.parse.GrammarFault.{GrammarFault}
+use Rattle.grammar.specs.declared.parse.GrammarFault.TheVariants as fault
 use Rattle.grammar.specs.declared.parse.Stop.{Stop}
 use Rattle.grammar.specs.declared.parse.Stop.TheVariants as stop
 use Rattle.grammar.specs.declared.parse.Read.{Read}
 use Rattle.grammar.specs.declared.parse.Listed.{Listed}
 use Rattle.grammar.specs.declared.parse.PatternRead.{PatternRead}
 use Rattle.grammar.specs.declared.parse.ParametersRead.{ParametersRead}
-use Rattle.grammar.specs.Arena.{At, node, Spells, identifiers, NamesAt, TypeAt, TypesAt, Stands, PartsAt, ParametersAt}
-use Rattle.grammar.specs.Parsing.{nodes_of, parts_of, parameters_of, operations_of, Grew, Grows, Spare, Room, OperationsFrom, StandsFor}
+use Rattle.grammar.specs.Arena.{At, node, Spells, identifiers, basic_of, NamesAt, TypeAt, TypesAt, Stands, PartsAt, ParametersAt}
+use Rattle.grammar.specs.Parsing.{place_or, nodes_of, parts_of, parameters_of, operations_of, Grew, Grows, Spare, Room, OperationsFrom, StandsFor}
 
 -- What was wanted at the word `at` has come to the word i, where the things ys are still wanted, and the tables have grown by no more entries than words were read.
 pub record Progress (x : Want) (ws : List Word) (at : ℕ) (ys : List Want) (i : ℕ) (t u : Tree) : Type 0 where
@@ -52,6 +55,11 @@ abbrev pub Answers : {V : Type 0} → (V → ℕ) → Want → (V → Type 0) �
 Answers next x M Q ws at t u (Ok v) = Progress x ws at [] (next v) t u × (at < next v) × M v × Q t u
 Answers next x M Q ws at t u (Err e) = Halts x ws at t e
 
+-- what a stop is in a listing of n bytes
+abbrev pub fault_of : List Word → ℕ → Stop → GrammarFault
+fault_of ws n (stop.At p) = fault.Stuck (place_or n (drop p ws))
+fault_of ws n stop.Memory = fault.Memory
+
 -- the tables of parameters and operations stay
 pub record Quiet (t u : Tree) : Type 0 where
   pub parameters : u.parameters ≡ t.parameters
@@ -68,6 +76,19 @@ IsWord k ws rest = (x : Text) × (i : ℕ) × (ws ≡ Fixed x i k ∷ rest)
 abbrev pub Expected : Kind → List Word → ℕ → Result ℕ Stop → Type 0
 Expected k ws at (Ok e) = Way (this k) ws at [] e × (at < e) × IsWord k (drop at ws) (drop e ws)
 Expected k ws at (Err e) = Misses (this k) ws at e
+
+-- the mark or the reserved word that the words begin with
+abbrev pub kind_of : List Word → Option Kind
+kind_of [] = None
+kind_of (Name x i ∷ ws) = None
+kind_of (Number x i n ∷ ws) = None
+kind_of (Gate x i g ∷ ws) = None
+kind_of (Fixed x i k ∷ ws) = Some k
+
+-- the word `at` is that basic type, or the type there is none
+abbrev pub BasicFound : List Word → ℕ → Option basics.Basic → Type 0
+BasicFound ws at (Some b) = Way m.a_type ws at [] (at + 1) × g.Writes (drop at ws) (s.basic (place_or 0 (drop at ws)) (basic_of b)) (drop (at + 1) ws)
+BasicFound ws at None = Way m.a_type ws at (this Open ∷ m.a_type ∷ this Comma ∷ m.types ∷ []) at
 
 -- the words begin with that name
 abbrev pub IsName : List Word → s.Identifier → List Word → Type 0

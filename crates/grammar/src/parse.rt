@@ -4,6 +4,7 @@ ghost use Rattle.words.specs.declared.token.Kind.TheVariants.{Using, If, Meas, O
 ghost use Rattle.syntax.specs.Machine.{heads};
 ghost use Rattle.grammar.specs.Arena.{node};
 ghost use Rattle.grammar.specs.Reading.{Expected, Added};
+ghost use Rattle.grammar.specs.declared.parse.Stop.TheVariants.{Memory};
 ghost use Rattle.grammar.specs.Parsing as parsing;
 ghost use Rattle.grammar.specs.Reading as reading;
 
@@ -11,6 +12,7 @@ use crate::tree::{
     Basic, Binder, Constant, Construct, Form, Name, Node, Operation, Parameter, Range, Tree,
 };
 use machine::order::Gate;
+use std::alloc::AllocFailed;
 use words::token::{Kind, Word};
 
 #[derive(Clone, Copy)]
@@ -24,6 +26,14 @@ pub enum GrammarFault {
 enum Stop {
     At(usize),
     Memory,
+}
+
+impl<T: Drop> From<AllocFailed<T>> for Stop {
+    ghost from_gives = { λ _ r. r ≡ Memory };
+
+    fn from(_e: AllocFailed<T>) -> Stop {
+        Stop::Memory
+    }
 }
 
 // A construct that was read: its node, and the word after it.
@@ -55,30 +65,35 @@ struct ParametersRead {
     next: usize,
 }
 
+impl Stop {
+    // What it is in a listing of `length` bytes.
+    fn fault(self, words: &[Word<'_>], length: usize) -> GrammarFault
+        ensures { result ≡ reading.fault_of words.now length self }
+    {
+        match self {
+            Stop::At(at) => {
+                let place = place_at(words, at, length);
+                GrammarFault::Stuck { place }
+            }
+            Stop::Memory => GrammarFault::Memory,
+        }
+    }
+}
+
 fn holds(words: &[Word<'_>], at: usize, kind: Kind) -> bool
     ensures heads { result ≡ heads kind (drop at words.now) }
     ensures within { result ≡ true → at < length words.now }
 {
-    if at >= words.len() {
-        return false;
-    }
-    match words[at] {
-        Word::Fixed {
-            text: _,
-            place: _,
-            kind: found,
-        } => found as u8 == kind as u8,
-        Word::Name { text: _, place: _ } => false,
-        Word::Number {
-            text: _,
-            place: _,
-            value: _,
-        } => false,
-        Word::Gate {
-            text: _,
-            place: _,
-            gate: _,
-        } => false,
+    matches!(words.get(at), Some(Word::Fixed { kind: found, .. }) if *found == kind)
+}
+
+// The mark or the reserved word at `at`.
+fn kind_at(words: &[Word<'_>], at: usize) -> Option<Kind>
+    ensures { result ≡ reading.kind_of (drop at words.now) }
+{
+    match words.get(at) {
+        Some(Word::Fixed { kind, .. }) => Some(*kind),
+        _ => None,
     }
 }
 
@@ -97,30 +112,13 @@ fn name_at(words: &[Word<'_>], at: usize) -> Result<Name, Stop>
     requires within { at ≤ length words.now }
     ensures { reading.NameFound words.now at result }
 {
-    if at >= words.len() {
+    let Some(Word::Name { text, place }) = words.get(at) else {
         return Err(Stop::At(at));
-    }
-    match words[at] {
-        Word::Name { text, place } => Ok(Name {
-            place,
-            span: text.len(),
-        }),
-        Word::Number {
-            text: _,
-            place: _,
-            value: _,
-        } => Err(Stop::At(at)),
-        Word::Gate {
-            text: _,
-            place: _,
-            gate: _,
-        } => Err(Stop::At(at)),
-        Word::Fixed {
-            text: _,
-            place: _,
-            kind: _,
-        } => Err(Stop::At(at)),
-    }
+    };
+    Ok(Name {
+        place: *place,
+        span: text.len(),
+    })
 }
 
 // Adds a node, and answers where it stands.
@@ -128,47 +126,23 @@ fn add_node(tree: &mut Tree, place: usize, construct: Construct) -> Result<usize
     ensures { Added (node place construct) tree.old tree.new result }
 {
     let at = tree.nodes.len();
-    match tree.nodes.push(Node { place, construct }) {
-        Ok(()) => Ok(at),
-        Err(_) => Err(Stop::Memory),
-    }
+    tree.nodes.push(Node { place, construct })?;
+    Ok(at)
 }
 
 // Adds a part.
 fn add_part(tree: &mut Tree, part: usize) -> Result<(), Stop>
     ensures { reading.PartAdded part tree.old tree.new result }
 {
-    match tree.parts.push(part) {
-        Ok(()) => Ok(()),
-        Err(_) => Err(Stop::Memory),
-    }
+    tree.parts.push(part)?;
+    Ok(())
 }
 
 // The place of the word at `at`, or the length of the listing where there is none.
 fn place_at(words: &[Word<'_>], at: usize, length: usize) -> usize
     ensures { result ≡ parsing.place_or length (drop at words.now) }
 {
-    if at >= words.len() {
-        return length;
-    }
-    match words[at] {
-        Word::Name { text: _, place } => place,
-        Word::Number {
-            text: _,
-            place,
-            value: _,
-        } => place,
-        Word::Gate {
-            text: _,
-            place,
-            gate: _,
-        } => place,
-        Word::Fixed {
-            text: _,
-            place,
-            kind: _,
-        } => place,
-    }
+    words.get(at).map_or(length, Word::place)
 }
 
 // Adds the node of a construct after which the word `next` comes.
@@ -185,11 +159,12 @@ fn name(words: &[Word<'_>], at: usize, tree: &mut Tree) -> Result<usize, Stop>
     ensures { reading.NameRead words.now at tree.old tree.new result }
 {
     let found = name_at(words, at)?;
-    let _node = add_node(tree, found.place, Construct::Named(found))?;
+    add_node(tree, found.place, Construct::Named(found))?;
     Ok(at + 1)
 }
 
 // {, name} )
+// More names, terms, types and parameters are read alike; what they ensure differs, and each is a rule of the grammar, so they are no one generic function.
 fn more_names(words: &[Word<'_>], at: usize, tree: &mut Tree) -> Result<usize, Stop>
     requires within { at ≤ length words.now }
     ensures { reading.MoreNamesRead words.now at tree.old tree.new result }
@@ -230,22 +205,17 @@ fn term(words: &[Word<'_>], at: usize, tree: &mut Tree) -> Result<Read, Stop>
     requires within { at ≤ length words.now }
     ensures { reading.TermRead words.now at tree.old tree.new result }
 {
-    if holds(words, at, Kind::Let) {
-        return bind_term(words, at, Binder::Let, tree);
+    let Some(kind) = kind_at(words, at) else {
+        return plain_term(words, at, tree);
+    };
+    match kind {
+        Kind::Let => bind_term(words, at, Binder::Let, tree),
+        Kind::Mut => bind_term(words, at, Binder::Mut, tree),
+        Kind::Set => bind_term(words, at, Binder::Set, tree),
+        Kind::Using => using_term(words, at, tree),
+        Kind::If => if_term(words, at, tree),
+        _ => plain_term(words, at, tree),
     }
-    if holds(words, at, Kind::Mut) {
-        return bind_term(words, at, Binder::Mut, tree);
-    }
-    if holds(words, at, Kind::Set) {
-        return bind_term(words, at, Binder::Set, tree);
-    }
-    if holds(words, at, Kind::Using) {
-        return using_term(words, at, tree);
-    }
-    if holds(words, at, Kind::If) {
-        return if_term(words, at, tree);
-    }
-    plain_term(words, at, tree)
 }
 
 // (let | mut | set) pattern = term in term
@@ -322,24 +292,12 @@ fn plain_term(words: &[Word<'_>], at: usize, tree: &mut Tree) -> Result<Read, St
             let span = text.len();
             name_or_call(words, at, Name { place, span }, tree)
         }
-        Word::Number {
-            text: _,
-            place,
-            value,
-        } => {
+        Word::Number { place, value, .. } => {
             let number = Constant::Number(value);
             made(tree, place, Construct::Constant(number), at + 1)
         }
-        Word::Gate {
-            text: _,
-            place,
-            gate,
-        } => gate_term(words, at, place, gate, tree),
-        Word::Fixed {
-            text: _,
-            place,
-            kind,
-        } => match kind {
+        Word::Gate { place, gate, .. } => gate_term(words, at, place, gate, tree),
+        Word::Fixed { place, kind, .. } => match kind {
             Kind::Zero => made(tree, place, Construct::Constant(Constant::Zero), at + 1),
             Kind::One => made(tree, place, Construct::Constant(Constant::One), at + 1),
             Kind::Meas => meas_term(words, at, tree),
@@ -466,6 +424,20 @@ fn more_terms(words: &[Word<'_>], at: usize, tree: &mut Tree) -> Result<Listed, 
     Ok(Listed { first, next })
 }
 
+// unit, bit, int or qbit
+fn basic_at(words: &[Word<'_>], at: usize) -> Option<Basic>
+    requires within { at ≤ length words.now }
+    ensures { reading.BasicFound words.now at result }
+{
+    match kind_at(words, at)? {
+        Kind::Unit => Some(Basic::Unit),
+        Kind::Bit => Some(Basic::Bit),
+        Kind::Int => Some(Basic::Int),
+        Kind::Qbit => Some(Basic::Qbit),
+        _ => None,
+    }
+}
+
 // unit, bit, int, qbit, or ( type , type {, type} )
 #[cycle(type_readers)]
 fn written_type(words: &[Word<'_>], at: usize, tree: &mut Tree) -> Result<Read, Stop>
@@ -473,17 +445,8 @@ fn written_type(words: &[Word<'_>], at: usize, tree: &mut Tree) -> Result<Read, 
     ensures { reading.TypeRead words.now at tree.old tree.new result }
 {
     let place = place_at(words, at, 0);
-    if holds(words, at, Kind::Unit) {
-        return made(tree, place, Construct::BasicType(Basic::Unit), at + 1);
-    }
-    if holds(words, at, Kind::Bit) {
-        return made(tree, place, Construct::BasicType(Basic::Bit), at + 1);
-    }
-    if holds(words, at, Kind::Int) {
-        return made(tree, place, Construct::BasicType(Basic::Int), at + 1);
-    }
-    if holds(words, at, Kind::Qbit) {
-        return made(tree, place, Construct::BasicType(Basic::Qbit), at + 1);
+    if let Some(basic) = basic_at(words, at) {
+        return made(tree, place, Construct::BasicType(basic), at + 1);
     }
     let open = expect(words, at, Kind::Open)?;
     let first = written_type(words, open, tree)?;
@@ -532,10 +495,8 @@ fn add_parameter(tree: &mut Tree, found: Name, written: usize) -> Result<(), Sto
         name: found,
         written,
     };
-    match tree.parameters.push(entry) {
-        Ok(()) => Ok(()),
-        Err(_) => Err(Stop::Memory),
-    }
+    tree.parameters.push(entry)?;
+    Ok(())
 }
 
 // name : type
@@ -574,17 +535,16 @@ fn parameters(words: &[Word<'_>], at: usize, tree: &mut Tree) -> Result<usize, S
     more_parameters(words, next, tree)
 }
 
-// Adds the nodes of the names of the parameters from `at` on.
-fn name_parameters(at: usize, tree: &mut Tree) -> Result<(), Stop>
-    requires within { at ≤ length (parsing.parameters_of tree.old) }
-    ensures { reading.ParametersNamed at tree.old tree.new result }
+// Adds the nodes of the names of the parameters from `first` on.
+fn name_parameters(first: usize, tree: &mut Tree) -> Result<(), Stop>
+    requires within { first ≤ length (parsing.parameters_of tree.old) }
+    ensures { reading.ParametersNamed first tree.old tree.new result }
 {
-    if at >= tree.parameters.len() {
-        return Ok(());
+    for at in first..tree.parameters.len() {
+        let found = tree.parameters[at].name;
+        add_node(tree, found.place, Construct::Named(found))?;
     }
-    let found = tree.parameters[at].name;
-    let _node = add_node(tree, found.place, Construct::Named(found))?;
-    name_parameters(at + 1, tree)
+    Ok(())
 }
 
 // The parameters of an operation with the nodes of their names, and the word after the closing parenthesis.
@@ -611,10 +571,8 @@ fn signature(words: &[Word<'_>], at: usize, tree: &mut Tree) -> Result<Parameter
 fn add_operation(tree: &mut Tree, entry: Operation) -> Result<(), Stop>
     ensures { reading.OperationAdded entry tree.old tree.new result }
 {
-    match tree.operations.push(entry) {
-        Ok(()) => Ok(()),
-        Err(_) => Err(Stop::Memory),
-    }
+    tree.operations.push(entry)?;
+    Ok(())
 }
 
 // op name ( parameters ) : type { term }
@@ -664,21 +622,12 @@ fn listing(words: &[Word<'_>], at: usize, tree: &mut Tree) -> Result<usize, Stop
 pub fn parse(words: &[Word<'_>], length: usize, tree: &mut Tree) -> Result<(), GrammarFault>
     ensures { parsing.Parsed words.now length tree.old tree.new result }
 {
-    match listing(words, 0, tree) {
-        Ok(end) => {
-            if end < words.len() {
-                let place = place_at(words, end, length);
-                Err(GrammarFault::Stuck { place })
-            } else {
-                Ok(())
-            }
-        }
-        Err(stop) => match stop {
-            Stop::At(at) => {
-                let stuck = place_at(words, at, length);
-                Err(GrammarFault::Stuck { place: stuck })
-            }
-            Stop::Memory => Err(GrammarFault::Memory),
-        },
+    let end = match listing(words, 0, tree) {
+        Ok(end) => end,
+        Err(stop) => return Err(stop.fault(words, length)),
+    };
+    if end < words.len() {
+        return Err(Stop::At(end).fault(words, length));
     }
+    Ok(())
 }

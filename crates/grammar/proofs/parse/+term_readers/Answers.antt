@@ -231,5 +231,10 @@ plain_term-returns-in-One t c =
 pub plain_term-returns-in_default : goal.plain_term-returns-in_default
 plain_term-returns-in_default t c = w.no_word c.args.words.now m.plain c.args.at _ c.if-at-words.false (w.word_here c.args.words.now c.args.at _ _ c.if-at-words.false c.in-Fixed.is) (w.plain_none c.in-Fixed.text c.in-Fixed.place c.in-Fixed.kind c.in_default.not-Zero c.in_default.not-One c.in_default.not-Meas c.in_default.not-Open) refl
 
-pub term-returns : goal.term-returns
-term-returns t c = x.plain_by c.args.tree.now c.plain_term.new.tree c.plain_term.result (w.plain_only c.args.words.now c.args.at c.requires.within (sym c.if-holds.ensures.heads) (sym c.if-holds-2.ensures.heads) (sym c.if-holds-3.ensures.heads) (sym c.if-holds-4.ensures.heads) (sym c.if-holds-5.ensures.heads)) c.plain_term.ensures
+pub term-returns-in_default : goal.term-returns-in_default
+term-returns-in_default t c = x.plain_by c.args.tree.now c.plain_term.new.tree c.plain_term.result (x.plain_unheaded c.args.words.now c.args.at c.requires.within (sym c.in_default.is ∙ c.kind_at.ensures)) c.plain_term.ensures
+
+pub term-returns-in_default-kind : goal.term-returns-in_default-kind
+term-returns-in_default-kind t c =
+    let n = c.in_default-kind in
+    x.plain_by c.args.tree.now c.plain_term-in_default-kind.new.tree c.plain_term-in_default-kind.result (x.plain_headed c.args.words.now c.args.at c.in-Some.kind c.requires.within (sym c.in-Some.is ∙ c.kind_at.ensures) n.not-Let n.not-Mut n.not-Set n.not-Using n.not-If) c.plain_term-in_default-kind.ensures
