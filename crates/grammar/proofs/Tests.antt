@@ -7,7 +7,7 @@ use Rattle.words.specs.declared.token.Kind.TheVariants.{Open, Close, LeftBrace, 
 use Rattle.words.specs.declared.token.Word.{Word}
 use Rattle.words.specs.declared.token.Word.TheVariants.{Name, Number, Gate, Fixed}
 use Rattle.syntax.specs.Machine.{index, same, heads}
-use Rattle.grammar.specs.Reading.{kind_of}
+use Rattle.grammar.specs.Parsing.{kind_of}
 
 number : (k : Kind) → kind_number k ≡ index k
 number Open = refl
