@@ -103,6 +103,9 @@ int_written {B = B} q c (x, i, e) = subst₂ (λ a m. g.Writes a (s.basic m s.in
 pub qbit_written : {A B : List Word} (q : ℕ) → q ≡ place_or 0 A → IsWord Qbit A B → g.Writes A (s.basic q s.qbit_type) B
 qbit_written {B = B} q c (x, i, e) = subst₂ (λ a m. g.Writes a (s.basic m s.qbit_type) B) (sym e) (its_place q c e) g.is_qbit_type
 
+pub basic_written : {A B : List Word} (b : s.Basic) (q : ℕ) → q ≡ place_or 0 A → g.Writes A (s.basic (place_or 0 A) b) B → g.Writes A (s.basic q b) B
+basic_written {A} {B} b q c h = subst (λ n. g.Writes A (s.basic n b) B) (sym c) h
+
 pub more_types_there : {A B C : List Word} {τs : s.Writtens} → IsWord Comma A B → g.WritesAll B τs C → g.MoreTypes A τs C
 more_types_there {C = C} {τs = τs} (x, i, e) h = subst (λ a. g.MoreTypes a τs C) (sym e) (g.types_more h)
 

@@ -1,6 +1,7 @@
 -- What parsing answers: the tree that its tables then stand for, the place of the first word that continues no listing, or that the tables had too little room.
-use Rattle.std.specs.Prelude.{◌≡◌, ℕ, ◌+◌, ◌<◌, ◌≤◌, List, [], ◌∷◌, length, drop, Ok, Err, vec_items, vec_capacity, Result, Vec, slice_index_or}
+use Rattle.std.specs.Prelude.{◌≡◌, ℕ, ◌+◌, ◌<◌, ◌≤◌, List, [], ◌∷◌, length, drop, Ok, Err, Some, None, Option, vec_items, vec_capacity, Result, Vec, slice_index_or}
 use Rattle.std.specs.declared.alloc.Global.{Global}
+use Rattle.words.specs.declared.token.Kind.{Kind}
 use Rattle.words.specs.declared.token.Word.{Word}
 use Rattle.words.specs.declared.token.Word.TheVariants.{Name, Number, Gate, Fixed}
 use Rattle.syntax.specs.Trees as s
@@ -13,6 +14,8 @@ use Rattle.grammar.specs.declared.tree.Operation as operations
 use Rattle.grammar.specs.declared.tree.Tree.{Tree}
 use Rattle.grammar.specs.declared.parse.GrammarFault.{GrammarFault}
 use Rattle.grammar.specs.declared.parse.GrammarFault.TheVariants as fault
+use Rattle.grammar.specs.declared.parse.Stop.{Stop}
+use Rattle.grammar.specs.declared.parse.Stop.TheVariants as stop
 use Rattle.grammar.specs.Arena.{At, node, Stands, OperationsAt}
 
 abbrev pub nodes_of : Tree → List entries.Node
@@ -62,6 +65,19 @@ place_or n (Name x i ∷ ws) = i
 place_or n (Number x i v ∷ ws) = i
 place_or n (Gate x i g ∷ ws) = i
 place_or n (Fixed x i k ∷ ws) = i
+
+-- the mark or the reserved word that the words begin with
+abbrev pub kind_of : List Word → Option Kind
+kind_of [] = None
+kind_of (Name x i ∷ ws) = None
+kind_of (Number x i n ∷ ws) = None
+kind_of (Gate x i g ∷ ws) = None
+kind_of (Fixed x i k ∷ ws) = Some k
+
+-- what a stop is in a listing of n bytes
+abbrev pub fault_of : List Word → ℕ → Stop → GrammarFault
+fault_of ws n (stop.At p) = fault.Stuck (place_or n (drop p ws))
+fault_of ws n stop.Memory = fault.Memory
 
 -- the entries of the table of operations from k on are those
 abbrev pub OperationsFrom : Tree → ℕ → List s.Operation → Type 0

@@ -1,16 +1,13 @@
 // Recursive descent from the words of a listing to its syntax tree.
-ghost use Rattle.std.specs.Prelude.{◌≡◌, ◌+◌, ◌^◌, ◌<◌, ◌≤◌, true, length, drop};
-ghost use Rattle.words.specs.declared.token.Kind.TheVariants.{Using, If, Meas, Open, Op};
-ghost use Rattle.syntax.specs.Machine.{heads};
-ghost use Rattle.grammar.specs.Arena.{node};
-ghost use Rattle.grammar.specs.Reading.{Expected, Added};
+ghost use Rattle.std.specs.Prelude.{◌≡◌, ◌+◌, ◌<◌, ◌≤◌, true, length, drop};
+ghost use Rattle.grammar.specs.declared.parse.Stop.TheVariants.{Memory};
 ghost use Rattle.grammar.specs.Parsing as parsing;
-ghost use Rattle.grammar.specs.Reading as reading;
 
 use crate::tree::{
     Basic, Binder, Constant, Construct, Form, Name, Node, Operation, Parameter, Range, Tree,
 };
 use machine::order::Gate;
+use std::alloc::AllocFailed;
 use words::token::{Kind, Word};
 
 #[derive(Clone, Copy)]
@@ -26,121 +23,26 @@ enum Stop {
     Memory,
 }
 
-// A construct that was read: its node, and the word after it.
-#[derive(Clone, Copy)]
-struct Read {
-    node: usize,
-    next: usize,
-}
+impl<T: Drop> From<AllocFailed<T>> for Stop {
+    ghost from_gives = { λ _ r. r ≡ Memory };
 
-// Parts that were read up to the closing parenthesis: where they begin in the table of parts, and the word after it.
-#[derive(Clone, Copy)]
-struct Listed {
-    first: usize,
-    next: usize,
-}
-
-// A pattern that was read: the nodes of its names, and the word after it.
-#[derive(Clone, Copy)]
-struct PatternRead {
-    names: Range,
-    next: usize,
-}
-
-// The parameters of an operation that were read: their entries, the nodes of their names, and the word after them.
-#[derive(Clone, Copy)]
-struct ParametersRead {
-    parameters: Range,
-    names: Range,
-    next: usize,
-}
-
-fn holds(words: &[Word<'_>], at: usize, kind: Kind) -> bool
-    ensures heads { result ≡ heads kind (drop at words.now) }
-    ensures within { result ≡ true → at < length words.now }
-{
-    if at >= words.len() {
-        return false;
-    }
-    match words[at] {
-        Word::Fixed {
-            text: _,
-            place: _,
-            kind: found,
-        } => found as u8 == kind as u8,
-        Word::Name { text: _, place: _ } => false,
-        Word::Number {
-            text: _,
-            place: _,
-            value: _,
-        } => false,
-        Word::Gate {
-            text: _,
-            place: _,
-            gate: _,
-        } => false,
+    fn from(_e: AllocFailed<T>) -> Stop {
+        Stop::Memory
     }
 }
 
-fn expect(words: &[Word<'_>], at: usize, kind: Kind) -> Result<usize, Stop>
-    requires within { at ≤ length words.now }
-    ensures { Expected kind words.now at result }
-{
-    if holds(words, at, kind) {
-        Ok(at + 1)
-    } else {
-        Err(Stop::At(at))
-    }
-}
-
-fn name_at(words: &[Word<'_>], at: usize) -> Result<Name, Stop>
-    requires within { at ≤ length words.now }
-    ensures { reading.NameFound words.now at result }
-{
-    if at >= words.len() {
-        return Err(Stop::At(at));
-    }
-    match words[at] {
-        Word::Name { text, place } => Ok(Name {
-            place,
-            span: text.len(),
-        }),
-        Word::Number {
-            text: _,
-            place: _,
-            value: _,
-        } => Err(Stop::At(at)),
-        Word::Gate {
-            text: _,
-            place: _,
-            gate: _,
-        } => Err(Stop::At(at)),
-        Word::Fixed {
-            text: _,
-            place: _,
-            kind: _,
-        } => Err(Stop::At(at)),
-    }
-}
-
-// Adds a node, and answers where it stands.
-fn add_node(tree: &mut Tree, place: usize, construct: Construct) -> Result<usize, Stop>
-    ensures { Added (node place construct) tree.old tree.new result }
-{
-    let at = tree.nodes.len();
-    match tree.nodes.push(Node { place, construct }) {
-        Ok(()) => Ok(at),
-        Err(_) => Err(Stop::Memory),
-    }
-}
-
-// Adds a part.
-fn add_part(tree: &mut Tree, part: usize) -> Result<(), Stop>
-    ensures { reading.PartAdded part tree.old tree.new result }
-{
-    match tree.parts.push(part) {
-        Ok(()) => Ok(()),
-        Err(_) => Err(Stop::Memory),
+impl Stop {
+    // What it is in a listing of `length` bytes.
+    fn fault(self, words: &[Word<'_>], length: usize) -> GrammarFault
+        ensures { result ≡ parsing.fault_of words.now length self }
+    {
+        match self {
+            Stop::At(at) => {
+                let place = place_at(words, at, length);
+                GrammarFault::Stuck { place }
+            }
+            Stop::Memory => GrammarFault::Memory,
+        }
     }
 }
 
@@ -148,537 +50,563 @@ fn add_part(tree: &mut Tree, part: usize) -> Result<(), Stop>
 fn place_at(words: &[Word<'_>], at: usize, length: usize) -> usize
     ensures { result ≡ parsing.place_or length (drop at words.now) }
 {
-    if at >= words.len() {
-        return length;
-    }
-    match words[at] {
-        Word::Name { text: _, place } => place,
-        Word::Number {
-            text: _,
-            place,
-            value: _,
-        } => place,
-        Word::Gate {
-            text: _,
-            place,
-            gate: _,
-        } => place,
-        Word::Fixed {
-            text: _,
-            place,
-            kind: _,
-        } => place,
-    }
+    words.get(at).map_or(length, Word::place)
 }
 
-// Adds the node of a construct after which the word `next` comes.
-fn made(tree: &mut Tree, place: usize, construct: Construct, next: usize) -> Result<Read, Stop>
-    ensures { reading.Made (node place construct) next tree.old tree.new result }
-{
-    let at = add_node(tree, place, construct)?;
-    Ok(Read { node: at, next })
+// What an operation declares of its parameters: their entries, and the nodes of their names.
+#[derive(Clone, Copy)]
+struct Signature {
+    parameters: Range,
+    names: Range,
 }
 
-// The node of a name, and the word after it.
-fn name(words: &[Word<'_>], at: usize, tree: &mut Tree) -> Result<usize, Stop>
-    requires within { at ≤ length words.now }
-    ensures { reading.NameRead words.now at tree.old tree.new result }
-{
-    let found = name_at(words, at)?;
-    let _node = add_node(tree, found.place, Construct::Named(found))?;
-    Ok(at + 1)
-}
-
-// {, name} )
-fn more_names(words: &[Word<'_>], at: usize, tree: &mut Tree) -> Result<usize, Stop>
-    requires within { at ≤ length words.now }
-    ensures { reading.MoreNamesRead words.now at tree.old tree.new result }
-{
-    if !holds(words, at, Kind::Comma) {
-        return expect(words, at, Kind::Close);
-    }
-    let next = name(words, at + 1, tree)?;
-    more_names(words, next, tree)
-}
-
-// name, or ( name , name {, name} )
-fn pattern(words: &[Word<'_>], at: usize, tree: &mut Tree) -> Result<PatternRead, Stop>
-    requires within { at ≤ length words.now }
-    ensures { reading.PatternIsRead words.now at tree.old tree.new result }
-{
-    let first = tree.nodes.len();
-    if !holds(words, at, Kind::Open) {
-        let next = name(words, at, tree)?;
-        let end = tree.nodes.len();
-        let names = Range { first, end };
-        return Ok(PatternRead { names, next });
-    }
-    let comma = name(words, at + 1, tree)?;
-    let second = expect(words, comma, Kind::Comma)?;
-    let rest = name(words, second, tree)?;
-    let close = more_names(words, rest, tree)?;
-    let last = tree.nodes.len();
-    let several = Range { first, end: last };
-    Ok(PatternRead {
-        names: several,
-        next: close,
-    })
-}
-
-#[cycle(term_readers)]
-fn term(words: &[Word<'_>], at: usize, tree: &mut Tree) -> Result<Read, Stop>
-    requires within { at ≤ length words.now }
-    ensures { reading.TermRead words.now at tree.old tree.new result }
-{
-    if holds(words, at, Kind::Let) {
-        return bind_term(words, at, Binder::Let, tree);
-    }
-    if holds(words, at, Kind::Mut) {
-        return bind_term(words, at, Binder::Mut, tree);
-    }
-    if holds(words, at, Kind::Set) {
-        return bind_term(words, at, Binder::Set, tree);
-    }
-    if holds(words, at, Kind::Using) {
-        return using_term(words, at, tree);
-    }
-    if holds(words, at, Kind::If) {
-        return if_term(words, at, tree);
-    }
-    plain_term(words, at, tree)
-}
-
-// (let | mut | set) pattern = term in term
-#[cycle(term_readers)]
-fn bind_term(words: &[Word<'_>], at: usize, binder: Binder, tree: &mut Tree) -> Result<Read, Stop>
-    requires within { at < length words.now }
-    requires begins { heads (reading.keyword binder) (drop at words.now) ≡ true }
-    ensures { reading.TermRead words.now at tree.old tree.new result }
-{
-    let bound = pattern(words, at + 1, tree)?;
-    let equals = expect(words, bound.next, Kind::Equals)?;
-    let right = term(words, equals, tree)?;
-    let inside = expect(words, right.next, Kind::In)?;
-    let body = term(words, inside, tree)?;
-    let place = place_at(words, at, 0);
-    let construct = Construct::Bind {
-        binder,
-        names: bound.names,
-        right: right.node,
-        body: body.node,
-    };
-    made(tree, place, construct, body.next)
-}
-
-// using pattern in term
-#[cycle(term_readers)]
-fn using_term(words: &[Word<'_>], at: usize, tree: &mut Tree) -> Result<Read, Stop>
-    requires within { at < length words.now }
-    requires begins { heads Using (drop at words.now) ≡ true }
-    ensures { reading.TermRead words.now at tree.old tree.new result }
-{
-    let bound = pattern(words, at + 1, tree)?;
-    let inside = expect(words, bound.next, Kind::In)?;
-    let body = term(words, inside, tree)?;
-    let place = place_at(words, at, 0);
-    let construct = Construct::Using {
-        names: bound.names,
-        body: body.node,
-    };
-    made(tree, place, construct, body.next)
-}
-
-// if term then term else term
-#[cycle(term_readers)]
-fn if_term(words: &[Word<'_>], at: usize, tree: &mut Tree) -> Result<Read, Stop>
-    requires within { at < length words.now }
-    requires begins { heads If (drop at words.now) ≡ true }
-    ensures { reading.TermRead words.now at tree.old tree.new result }
-{
-    let condition = term(words, at + 1, tree)?;
-    let first = expect(words, condition.next, Kind::Then)?;
-    let yes = term(words, first, tree)?;
-    let second = expect(words, yes.next, Kind::Else)?;
-    let other = term(words, second, tree)?;
-    let place = place_at(words, at, 0);
-    let construct = Construct::If {
-        condition: condition.node,
-        yes: yes.node,
-        other: other.node,
-    };
-    made(tree, place, construct, other.next)
-}
-
-#[cycle(term_readers)]
-fn plain_term(words: &[Word<'_>], at: usize, tree: &mut Tree) -> Result<Read, Stop>
-    requires within { at ≤ length words.now }
-    ensures { reading.PlainRead words.now at tree.old tree.new result }
-{
-    if at >= words.len() {
-        return Err(Stop::At(at));
-    }
-    match words[at] {
-        Word::Name { text, place } => {
-            let span = text.len();
-            name_or_call(words, at, Name { place, span }, tree)
-        }
-        Word::Number {
-            text: _,
-            place,
-            value,
-        } => {
-            let number = Constant::Number(value);
-            made(tree, place, Construct::Constant(number), at + 1)
-        }
-        Word::Gate {
-            text: _,
-            place,
-            gate,
-        } => gate_term(words, at, place, gate, tree),
-        Word::Fixed {
-            text: _,
-            place,
-            kind,
-        } => match kind {
-            Kind::Zero => made(tree, place, Construct::Constant(Constant::Zero), at + 1),
-            Kind::One => made(tree, place, Construct::Constant(Constant::One), at + 1),
-            Kind::Meas => meas_term(words, at, tree),
-            Kind::Open => parenthesis(words, at, tree),
-            _ => Err(Stop::At(at)),
-        },
-    }
-}
-
-// name, or name ( arguments )
-#[cycle(term_readers)]
-fn name_or_call(words: &[Word<'_>], at: usize, found: Name, tree: &mut Tree) -> Result<Read, Stop>
-    requires within { at < length words.now }
-    requires begins { reading.NameHere words.now at found }
-    ensures { reading.PlainRead words.now at tree.old tree.new result }
-{
-    if !holds(words, at + 1, Kind::Open) {
-        return made(tree, found.place, Construct::Use(found), at + 1);
-    }
-    let form = Form::Call(found);
-    if holds(words, at + 2, Kind::Close) {
-        let none = tree.parts.len();
-        let parts = Range {
-            first: none,
-            end: none,
-        };
-        return made(tree, found.place, Construct::Built { form, parts }, at + 3);
-    }
-    let given = terms(words, at + 2, tree)?;
-    built(tree, found.place, form, given)
-}
-
-// gate ( term {, term} )
-#[cycle(term_readers)]
-fn gate_term(
-    words: &[Word<'_>],
+// The words, and which is at hand: the next one to read. It never passes their end.
+#[derive(Drop)]
+struct Parser<'a, 'b> {
+    words: &'a [Word<'b>],
     at: usize,
-    place: usize,
-    gate: Gate,
-    tree: &mut Tree,
-) -> Result<Read, Stop>
-    requires within { at < length words.now }
-    requires begins { reading.GateHere words.now at place gate }
-    ensures { reading.PlainRead words.now at tree.old tree.new result }
-{
-    let open = expect(words, at + 1, Kind::Open)?;
-    let given = terms(words, open, tree)?;
-    built(tree, place, Form::Gate(gate), given)
+    ghost within: { at ≤ length words.now },
 }
 
-// meas ( term )
-#[cycle(term_readers)]
-fn meas_term(words: &[Word<'_>], at: usize, tree: &mut Tree) -> Result<Read, Stop>
-    requires within { at < length words.now }
-    requires begins { heads Meas (drop at words.now) ≡ true }
-    ensures { reading.PlainRead words.now at tree.old tree.new result }
-{
-    let open = expect(words, at + 1, Kind::Open)?;
-    let part = term(words, open, tree)?;
-    let close = expect(words, part.next, Kind::Close)?;
-    let place = place_at(words, at, 0);
-    let first = tree.parts.len();
-    add_part(tree, part.node)?;
-    let single = Listed { first, next: close };
-    built(tree, place, Form::Meas, single)
-}
+impl<'a, 'b> Parser<'a, 'b> {
+    ghost use Rattle.words.specs.declared.token.Kind.TheVariants.{Using, If, Meas, Open, Op};
+    ghost use Rattle.syntax.specs.Machine.{heads};
+    ghost use Rattle.grammar.specs.Reading as reading;
 
-// ( ), ( term ), or ( term , term {, term} )
-#[cycle(term_readers)]
-fn parenthesis(words: &[Word<'_>], at: usize, tree: &mut Tree) -> Result<Read, Stop>
-    requires within { at < length words.now }
-    requires begins { heads Open (drop at words.now) ≡ true }
-    ensures { reading.PlainRead words.now at tree.old tree.new result }
-{
-    let place = place_at(words, at, 0);
-    if holds(words, at + 1, Kind::Close) {
-        return made(tree, place, Construct::Constant(Constant::Unit), at + 2);
+    fn new(words: &'a [Word<'b>]) -> Parser<'a, 'b>
+        ensures words { result.words.now ≡ words.now }
+        ensures at { result.at ≡ 0 }
+    {
+        Parser { words, at: 0 }
     }
-    let inner = term(words, at + 1, tree)?;
-    if !holds(words, inner.next, Kind::Comma) {
-        let close = expect(words, inner.next, Kind::Close)?;
-        let node = inner.node;
-        return Ok(Read { node, next: close });
+
+    // Is the word at hand of that kind?
+    fn holds(&self, kind: Kind) -> bool
+        ensures { result ≡ heads kind (reading.rest self.now) }
+    {
+        matches!(self.words.get(self.at), Some(Word::Fixed { kind: found, .. }) if *found == kind)
     }
-    let rest = terms(words, inner.next + 1, tree)?;
-    add_part(tree, inner.node)?;
-    built(tree, place, Form::Tuple, rest)
-}
 
-// Adds the node of a construct whose parts stand from `given.first` to the end of the table of parts.
-fn built(tree: &mut Tree, place: usize, form: Form, given: Listed) -> Result<Read, Stop>
-    ensures { reading.BuiltOf place form given tree.old tree.new result }
-{
-    let parts = Range {
-        first: given.first,
-        end: tree.parts.len(),
-    };
-    made(tree, place, Construct::Built { form, parts }, given.next)
-}
-
-// term {, term} )
-#[cycle(term_readers)]
-fn terms(words: &[Word<'_>], at: usize, tree: &mut Tree) -> Result<Listed, Stop>
-    requires within { at ≤ length words.now }
-    ensures { reading.TermsRead words.now at tree.old tree.new result }
-{
-    let part = term(words, at, tree)?;
-    let rest = more_terms(words, part.next, tree)?;
-    add_part(tree, part.node)?;
-    Ok(rest)
-}
-
-// {, term} )
-#[cycle(term_readers)]
-fn more_terms(words: &[Word<'_>], at: usize, tree: &mut Tree) -> Result<Listed, Stop>
-    requires within { at ≤ length words.now }
-    ensures { reading.MoreRead words.now at tree.old tree.new result }
-{
-    if holds(words, at, Kind::Comma) {
-        return terms(words, at + 1, tree);
+    // The kind of the word at hand, if it is a mark or a reserved word.
+    fn kind(&self) -> Option<Kind>
+        ensures { result ≡ parsing.kind_of (reading.rest self.now) }
+    {
+        match self.words.get(self.at) {
+            Some(Word::Fixed { kind, .. }) => Some(*kind),
+            _ => None,
+        }
     }
-    let next = expect(words, at, Kind::Close)?;
-    let first = tree.parts.len();
-    Ok(Listed { first, next })
-}
 
-// unit, bit, int, qbit, or ( type , type {, type} )
-#[cycle(type_readers)]
-fn written_type(words: &[Word<'_>], at: usize, tree: &mut Tree) -> Result<Read, Stop>
-    requires within { at ≤ length words.now }
-    ensures { reading.TypeRead words.now at tree.old tree.new result }
-{
-    let place = place_at(words, at, 0);
-    if holds(words, at, Kind::Unit) {
-        return made(tree, place, Construct::BasicType(Basic::Unit), at + 1);
+    // The place of the word at hand, or 0 at the end.
+    fn place(&self) -> usize
+        ensures { result ≡ parsing.place_or 0 (reading.rest self.now) }
+    {
+        place_at(self.words, self.at, 0)
     }
-    if holds(words, at, Kind::Bit) {
-        return made(tree, place, Construct::BasicType(Basic::Bit), at + 1);
+
+    // Passes the word at hand.
+    fn advance(&mut self)
+        requires within { self.old.at < length self.old.words.now }
+        ensures { reading.Passed self.old self.new }
+    {
+        self.at += 1;
     }
-    if holds(words, at, Kind::Int) {
-        return made(tree, place, Construct::BasicType(Basic::Int), at + 1);
+
+    // Passes a word of that kind.
+    fn expect(&mut self, kind: Kind) -> Result<(), Stop>
+        ensures { reading.Expected kind self.old self.new result }
+    {
+        if !self.holds(kind) {
+            return Err(Stop::At(self.at));
+        }
+        self.advance();
+        Ok(())
     }
-    if holds(words, at, Kind::Qbit) {
-        return made(tree, place, Construct::BasicType(Basic::Qbit), at + 1);
+
+    // Passes a name.
+    fn expect_name(&mut self) -> Result<Name, Stop>
+        ensures { reading.NameFound self.old self.new result }
+    {
+        let Some(Word::Name { text, place }) = self.words.get(self.at) else {
+            return Err(Stop::At(self.at));
+        };
+        let span = text.len();
+        let found = Name {
+            place: *place,
+            span,
+        };
+        self.advance();
+        Ok(found)
     }
-    let open = expect(words, at, Kind::Open)?;
-    let first = written_type(words, open, tree)?;
-    let second = expect(words, first.next, Kind::Comma)?;
-    let rest = written_types(words, second, tree)?;
-    add_part(tree, first.node)?;
-    let end = tree.parts.len();
-    let parts = Range {
-        first: rest.first,
-        end,
-    };
-    made(tree, place, Construct::TupleType(parts), rest.next)
-}
 
-// type {, type} )
-#[cycle(type_readers)]
-fn written_types(words: &[Word<'_>], at: usize, tree: &mut Tree) -> Result<Listed, Stop>
-    requires within { at ≤ length words.now }
-    ensures { reading.TypesRead words.now at tree.old tree.new result }
-{
-    let part = written_type(words, at, tree)?;
-    let rest = more_types(words, part.next, tree)?;
-    add_part(tree, part.node)?;
-    Ok(rest)
-}
-
-// {, type} )
-#[cycle(type_readers)]
-fn more_types(words: &[Word<'_>], at: usize, tree: &mut Tree) -> Result<Listed, Stop>
-    requires within { at ≤ length words.now }
-    ensures { reading.MoreTypesRead words.now at tree.old tree.new result }
-{
-    if holds(words, at, Kind::Comma) {
-        return written_types(words, at + 1, tree);
+    // The node of a name.
+    fn name(&mut self, tree: &mut Tree) -> Result<(), Stop>
+        ensures { reading.NameRead self.old self.new tree.old tree.new result }
+    {
+        let found = self.expect_name()?;
+        tree.add_node(found.place, Construct::Named(found))?;
+        Ok(())
     }
-    let next = expect(words, at, Kind::Close)?;
-    let first = tree.parts.len();
-    Ok(Listed { first, next })
-}
 
-// Adds an entry to the table of parameters.
-fn add_parameter(tree: &mut Tree, found: Name, written: usize) -> Result<(), Stop>
-    ensures { reading.ParameterAdded found written tree.old tree.new result }
-{
-    let entry = Parameter {
-        name: found,
-        written,
-    };
-    match tree.parameters.push(entry) {
-        Ok(()) => Ok(()),
-        Err(_) => Err(Stop::Memory),
+    // {, name} )
+    // More names, terms, types and parameters are read alike; what they ensure differs, and each is a rule of the grammar, so they are no one generic function.
+    fn more_names(&mut self, tree: &mut Tree) -> Result<(), Stop>
+        ensures { reading.MoreNamesRead self.old self.new tree.old tree.new result }
+    {
+        if !self.holds(Kind::Comma) {
+            return self.expect(Kind::Close);
+        }
+        self.advance();
+        self.name(tree)?;
+        self.more_names(tree)
+    }
+
+    // name, or ( name , name {, name} )
+    fn pattern(&mut self, tree: &mut Tree) -> Result<Range, Stop>
+        ensures { reading.PatternIsRead self.old self.new tree.old tree.new result }
+    {
+        let first = tree.nodes.len();
+        if !self.holds(Kind::Open) {
+            self.name(tree)?;
+            let end = tree.nodes.len();
+            return Ok(Range { first, end });
+        }
+        self.advance();
+        self.name(tree)?;
+        self.expect(Kind::Comma)?;
+        self.name(tree)?;
+        self.more_names(tree)?;
+        let last = tree.nodes.len();
+        Ok(Range { first, end: last })
+    }
+
+    #[cycle(term_readers)]
+    fn term(&mut self, tree: &mut Tree) -> Result<usize, Stop>
+        ensures { reading.TermRead self.old self.new tree.old tree.new result }
+    {
+        let Some(kind) = self.kind() else {
+            return self.plain_term(tree);
+        };
+        match kind {
+            Kind::Let => self.bind_term(Binder::Let, tree),
+            Kind::Mut => self.bind_term(Binder::Mut, tree),
+            Kind::Set => self.bind_term(Binder::Set, tree),
+            Kind::Using => self.using_term(tree),
+            Kind::If => self.if_term(tree),
+            _ => self.plain_term(tree),
+        }
+    }
+
+    // (let | mut | set) pattern = term in term
+    #[cycle(term_readers)]
+    fn bind_term(&mut self, binder: Binder, tree: &mut Tree) -> Result<usize, Stop>
+        requires begins { heads (reading.keyword binder) (reading.rest self.old) ≡ true }
+        ensures { reading.TermRead self.old self.new tree.old tree.new result }
+    {
+        let place = self.place();
+        self.advance();
+        let names = self.pattern(tree)?;
+        self.expect(Kind::Equals)?;
+        let right = self.term(tree)?;
+        self.expect(Kind::In)?;
+        let body = self.term(tree)?;
+        tree.add_node(
+            place,
+            Construct::Bind {
+                binder,
+                names,
+                right,
+                body,
+            },
+        )
+    }
+
+    // using pattern in term
+    #[cycle(term_readers)]
+    fn using_term(&mut self, tree: &mut Tree) -> Result<usize, Stop>
+        requires begins { heads Using (reading.rest self.old) ≡ true }
+        ensures { reading.TermRead self.old self.new tree.old tree.new result }
+    {
+        let place = self.place();
+        self.advance();
+        let names = self.pattern(tree)?;
+        self.expect(Kind::In)?;
+        let body = self.term(tree)?;
+        tree.add_node(place, Construct::Using { names, body })
+    }
+
+    // if term then term else term
+    #[cycle(term_readers)]
+    fn if_term(&mut self, tree: &mut Tree) -> Result<usize, Stop>
+        requires begins { heads If (reading.rest self.old) ≡ true }
+        ensures { reading.TermRead self.old self.new tree.old tree.new result }
+    {
+        let place = self.place();
+        self.advance();
+        let condition = self.term(tree)?;
+        self.expect(Kind::Then)?;
+        let yes = self.term(tree)?;
+        self.expect(Kind::Else)?;
+        let other = self.term(tree)?;
+        tree.add_node(
+            place,
+            Construct::If {
+                condition,
+                yes,
+                other,
+            },
+        )
+    }
+
+    #[cycle(term_readers)]
+    fn plain_term(&mut self, tree: &mut Tree) -> Result<usize, Stop>
+        ensures { reading.PlainRead self.old self.new tree.old tree.new result }
+    {
+        let Some(word) = self.words.get(self.at) else {
+            return Err(Stop::At(self.at));
+        };
+        match *word {
+            Word::Name { text, place } => {
+                let span = text.len();
+                self.name_or_call(Name { place, span }, tree)
+            }
+            Word::Number { place, value, .. } => {
+                self.constant(place, Constant::Number(value), tree)
+            }
+            Word::Gate { place, gate, .. } => self.gate_term(place, gate, tree),
+            Word::Fixed { place, kind, .. } => match kind {
+                Kind::Zero => self.constant(place, Constant::Zero, tree),
+                Kind::One => self.constant(place, Constant::One, tree),
+                Kind::Meas => self.meas_term(tree),
+                Kind::Open => self.parenthesis(tree),
+                _ => Err(Stop::At(self.at)),
+            },
+        }
+    }
+
+    // The node of a constant that is the word at hand.
+    fn constant(&mut self, place: usize, constant: Constant, tree: &mut Tree) -> Result<usize, Stop>
+        requires begins { reading.ConstantHere self.old place constant }
+        ensures { reading.PlainRead self.old self.new tree.old tree.new result }
+    {
+        self.advance();
+        tree.add_node(place, Construct::Constant(constant))
+    }
+
+    // name, or name ( arguments )
+    #[cycle(term_readers)]
+    fn name_or_call(&mut self, found: Name, tree: &mut Tree) -> Result<usize, Stop>
+        requires begins { reading.NameHere self.old found }
+        ensures { reading.PlainRead self.old self.new tree.old tree.new result }
+    {
+        self.advance();
+        if !self.holds(Kind::Open) {
+            return tree.add_node(found.place, Construct::Use(found));
+        }
+        self.advance();
+        if self.holds(Kind::Close) {
+            self.advance();
+            let none = tree.parts.len();
+            return tree.add_built(found.place, Form::Call(found), none);
+        }
+        let first = self.terms(tree)?;
+        tree.add_built(found.place, Form::Call(found), first)
+    }
+
+    // gate ( term {, term} )
+    #[cycle(term_readers)]
+    fn gate_term(&mut self, place: usize, gate: Gate, tree: &mut Tree) -> Result<usize, Stop>
+        requires begins { reading.GateHere self.old place gate }
+        ensures { reading.PlainRead self.old self.new tree.old tree.new result }
+    {
+        self.advance();
+        self.expect(Kind::Open)?;
+        let first = self.terms(tree)?;
+        tree.add_built(place, Form::Gate(gate), first)
+    }
+
+    // meas ( term )
+    #[cycle(term_readers)]
+    fn meas_term(&mut self, tree: &mut Tree) -> Result<usize, Stop>
+        requires begins { heads Meas (reading.rest self.old) ≡ true }
+        ensures { reading.PlainRead self.old self.new tree.old tree.new result }
+    {
+        let place = self.place();
+        self.advance();
+        self.expect(Kind::Open)?;
+        let part = self.term(tree)?;
+        self.expect(Kind::Close)?;
+        let first = tree.parts.len();
+        tree.add_part(part)?;
+        tree.add_built(place, Form::Meas, first)
+    }
+
+    // ( ), ( term ), or ( term , term {, term} )
+    #[cycle(term_readers)]
+    fn parenthesis(&mut self, tree: &mut Tree) -> Result<usize, Stop>
+        requires begins { heads Open (reading.rest self.old) ≡ true }
+        ensures { reading.PlainRead self.old self.new tree.old tree.new result }
+    {
+        let place = self.place();
+        self.advance();
+        if self.holds(Kind::Close) {
+            self.advance();
+            return tree.add_node(place, Construct::Constant(Constant::Unit));
+        }
+        let inner = self.term(tree)?;
+        if !self.holds(Kind::Comma) {
+            self.expect(Kind::Close)?;
+            return Ok(inner);
+        }
+        self.advance();
+        let first = self.terms(tree)?;
+        tree.add_part(inner)?;
+        tree.add_built(place, Form::Tuple, first)
+    }
+
+    // term {, term} ): where their nodes begin in the table of parts, of which they are the end
+    #[cycle(term_readers)]
+    fn terms(&mut self, tree: &mut Tree) -> Result<usize, Stop>
+        ensures { reading.TermsRead self.old self.new tree.old tree.new result }
+    {
+        let part = self.term(tree)?;
+        let first = self.more_terms(tree)?;
+        tree.add_part(part)?;
+        Ok(first)
+    }
+
+    // {, term} )
+    #[cycle(term_readers)]
+    fn more_terms(&mut self, tree: &mut Tree) -> Result<usize, Stop>
+        ensures { reading.MoreRead self.old self.new tree.old tree.new result }
+    {
+        if self.holds(Kind::Comma) {
+            self.advance();
+            return self.terms(tree);
+        }
+        self.expect(Kind::Close)?;
+        Ok(tree.parts.len())
+    }
+
+    // unit, bit, int or qbit
+    fn basic(&self) -> Option<Basic>
+        ensures { reading.BasicFound self.now result }
+    {
+        match self.kind()? {
+            Kind::Unit => Some(Basic::Unit),
+            Kind::Bit => Some(Basic::Bit),
+            Kind::Int => Some(Basic::Int),
+            Kind::Qbit => Some(Basic::Qbit),
+            _ => None,
+        }
+    }
+
+    // unit, bit, int, qbit, or ( type , type {, type} )
+    #[cycle(type_readers)]
+    fn written_type(&mut self, tree: &mut Tree) -> Result<usize, Stop>
+        ensures { reading.TypeRead self.old self.new tree.old tree.new result }
+    {
+        let place = self.place();
+        if let Some(basic) = self.basic() {
+            self.advance();
+            return tree.add_node(place, Construct::BasicType(basic));
+        }
+        self.expect(Kind::Open)?;
+        let part = self.written_type(tree)?;
+        self.expect(Kind::Comma)?;
+        let first = self.written_types(tree)?;
+        tree.add_part(part)?;
+        let end = tree.parts.len();
+        tree.add_node(place, Construct::TupleType(Range { first, end }))
+    }
+
+    // type {, type} )
+    #[cycle(type_readers)]
+    fn written_types(&mut self, tree: &mut Tree) -> Result<usize, Stop>
+        ensures { reading.TypesRead self.old self.new tree.old tree.new result }
+    {
+        let part = self.written_type(tree)?;
+        let first = self.more_types(tree)?;
+        tree.add_part(part)?;
+        Ok(first)
+    }
+
+    // {, type} )
+    #[cycle(type_readers)]
+    fn more_types(&mut self, tree: &mut Tree) -> Result<usize, Stop>
+        ensures { reading.MoreTypesRead self.old self.new tree.old tree.new result }
+    {
+        if self.holds(Kind::Comma) {
+            self.advance();
+            return self.written_types(tree);
+        }
+        self.expect(Kind::Close)?;
+        Ok(tree.parts.len())
+    }
+
+    // name : type
+    fn parameter(&mut self, tree: &mut Tree) -> Result<(), Stop>
+        ensures { reading.ParameterRead self.old self.new tree.old tree.new result }
+    {
+        let found = self.expect_name()?;
+        self.expect(Kind::Colon)?;
+        let written = self.written_type(tree)?;
+        tree.add_parameter(found, written)
+    }
+
+    // {, name : type} )
+    fn more_parameters(&mut self, tree: &mut Tree) -> Result<(), Stop>
+        ensures { reading.MoreParametersRead self.old self.new tree.old tree.new result }
+    {
+        if !self.holds(Kind::Comma) {
+            return self.expect(Kind::Close);
+        }
+        self.advance();
+        self.parameter(tree)?;
+        self.more_parameters(tree)
+    }
+
+    // None, or name : type {, name : type}, and the closing parenthesis.
+    fn parameters(&mut self, tree: &mut Tree) -> Result<(), Stop>
+        ensures { reading.ParametersAreRead self.old self.new tree.old tree.new result }
+    {
+        if self.holds(Kind::Close) {
+            self.advance();
+            return Ok(());
+        }
+        self.parameter(tree)?;
+        self.more_parameters(tree)
+    }
+
+    // The parameters of an operation with the nodes of their names, and the closing parenthesis.
+    fn signature(&mut self, tree: &mut Tree) -> Result<Signature, Stop>
+        ensures { reading.SignatureRead self.old self.new tree.old tree.new result }
+    {
+        let first = tree.parameters.len();
+        self.parameters(tree)?;
+        let end = tree.parameters.len();
+        let start = tree.nodes.len();
+        tree.name_parameters(first)?;
+        let last = tree.nodes.len();
+        Ok(Signature {
+            parameters: Range { first, end },
+            names: Range {
+                first: start,
+                end: last,
+            },
+        })
+    }
+
+    // op name ( parameters ) : type { term }
+    fn operation(&mut self, tree: &mut Tree) -> Result<(), Stop>
+        requires begins { heads Op (reading.rest self.old) ≡ true }
+        ensures { reading.OperationRead self.old self.new tree.old tree.new result }
+    {
+        let place = self.place();
+        self.advance();
+        let name = self.expect_name()?;
+        self.expect(Kind::Open)?;
+        let given = self.signature(tree)?;
+        self.expect(Kind::Colon)?;
+        let result = self.written_type(tree)?;
+        self.expect(Kind::LeftBrace)?;
+        let body = self.term(tree)?;
+        self.expect(Kind::RightBrace)?;
+        tree.add_operation(Operation {
+            place,
+            name,
+            parameters: given.parameters,
+            names: given.names,
+            result,
+            body,
+        })
+    }
+
+    // {operation} run term
+    fn listing(&mut self, tree: &mut Tree) -> Result<(), Stop>
+        ensures { reading.ListingRead self.old self.new tree.old tree.new result }
+    {
+        if self.holds(Kind::Op) {
+            self.operation(tree)?;
+            return self.listing(tree);
+        }
+        let place = self.place();
+        self.expect(Kind::Run)?;
+        tree.term = self.term(tree)?;
+        tree.run = place;
+        Ok(())
     }
 }
 
-// name : type
-fn parameter(words: &[Word<'_>], at: usize, tree: &mut Tree) -> Result<usize, Stop>
-    requires within { at ≤ length words.now }
-    ensures { reading.ParameterRead words.now at tree.old tree.new result }
-{
-    let found = name_at(words, at)?;
-    let colon = expect(words, at + 1, Kind::Colon)?;
-    let written = written_type(words, colon, tree)?;
-    add_parameter(tree, found, written.node)?;
-    Ok(written.next)
-}
+impl Tree {
+    ghost use Rattle.grammar.specs.Arena.{node};
+    ghost use Rattle.grammar.specs.Reading as reading;
 
-// {, name : type} )
-fn more_parameters(words: &[Word<'_>], at: usize, tree: &mut Tree) -> Result<usize, Stop>
-    requires within { at ≤ length words.now }
-    ensures { reading.MoreParametersRead words.now at tree.old tree.new result }
-{
-    if !holds(words, at, Kind::Comma) {
-        return expect(words, at, Kind::Close);
+    // Adds a node, and answers where it stands.
+    fn add_node(&mut self, place: usize, construct: Construct) -> Result<usize, Stop>
+        ensures { reading.Added (node place construct) self.old self.new result }
+    {
+        let at = self.nodes.len();
+        self.nodes.push(Node { place, construct })?;
+        Ok(at)
     }
-    let next = parameter(words, at + 1, tree)?;
-    more_parameters(words, next, tree)
-}
 
-// None, or name : type {, name : type}, and the closing parenthesis.
-fn parameters(words: &[Word<'_>], at: usize, tree: &mut Tree) -> Result<usize, Stop>
-    requires within { at ≤ length words.now }
-    ensures { reading.ParametersAreRead words.now at tree.old tree.new result }
-{
-    if holds(words, at, Kind::Close) {
-        return Ok(at + 1);
+    // Adds a part.
+    fn add_part(&mut self, part: usize) -> Result<(), Stop>
+        ensures { reading.PartAdded part self.old self.new result }
+    {
+        self.parts.push(part)?;
+        Ok(())
     }
-    let next = parameter(words, at, tree)?;
-    more_parameters(words, next, tree)
-}
 
-// Adds the nodes of the names of the parameters from `at` on.
-fn name_parameters(at: usize, tree: &mut Tree) -> Result<(), Stop>
-    requires within { at ≤ length (parsing.parameters_of tree.old) }
-    ensures { reading.ParametersNamed at tree.old tree.new result }
-{
-    if at >= tree.parameters.len() {
-        return Ok(());
+    // Adds the node of a construct whose parts stand from `first` to the end of the table of parts.
+    fn add_built(&mut self, place: usize, form: Form, first: usize) -> Result<usize, Stop>
+        ensures { reading.BuiltOf place form first self.old self.new result }
+    {
+        let end = self.parts.len();
+        let parts = Range { first, end };
+        self.add_node(place, Construct::Built { form, parts })
     }
-    let found = tree.parameters[at].name;
-    let _node = add_node(tree, found.place, Construct::Named(found))?;
-    name_parameters(at + 1, tree)
-}
 
-// The parameters of an operation with the nodes of their names, and the word after the closing parenthesis.
-fn signature(words: &[Word<'_>], at: usize, tree: &mut Tree) -> Result<ParametersRead, Stop>
-    requires within { at ≤ length words.now }
-    ensures { reading.SignatureRead words.now at tree.old tree.new result }
-{
-    let first = tree.parameters.len();
-    let next = parameters(words, at, tree)?;
-    let end = tree.parameters.len();
-    let start = tree.nodes.len();
-    name_parameters(first, tree)?;
-    let last = tree.nodes.len();
-    Ok(ParametersRead {
-        parameters: Range { first, end },
-        names: Range {
-            first: start,
-            end: last,
-        },
-        next,
-    })
-}
-
-fn add_operation(tree: &mut Tree, entry: Operation) -> Result<(), Stop>
-    ensures { reading.OperationAdded entry tree.old tree.new result }
-{
-    match tree.operations.push(entry) {
-        Ok(()) => Ok(()),
-        Err(_) => Err(Stop::Memory),
+    // Adds an entry to the table of parameters.
+    fn add_parameter(&mut self, name: Name, written: usize) -> Result<(), Stop>
+        ensures { reading.ParameterAdded name written self.old self.new result }
+    {
+        self.parameters.push(Parameter { name, written })?;
+        Ok(())
     }
-}
 
-// op name ( parameters ) : type { term }
-fn operation(words: &[Word<'_>], at: usize, tree: &mut Tree) -> Result<usize, Stop>
-    requires within { at < length words.now }
-    requires begins { heads Op (drop at words.now) ≡ true }
-    ensures { reading.OperationRead words.now at tree.old tree.new result }
-{
-    let place = place_at(words, at, 0);
-    let found = name_at(words, at + 1)?;
-    let open = expect(words, at + 2, Kind::Open)?;
-    let given = signature(words, open, tree)?;
-    let colon = expect(words, given.next, Kind::Colon)?;
-    let result = written_type(words, colon, tree)?;
-    let brace = expect(words, result.next, Kind::LeftBrace)?;
-    let body = term(words, brace, tree)?;
-    let next = expect(words, body.next, Kind::RightBrace)?;
-    let entry = Operation {
-        place,
-        name: found,
-        parameters: given.parameters,
-        names: given.names,
-        result: result.node,
-        body: body.node,
-    };
-    add_operation(tree, entry)?;
-    Ok(next)
-}
-
-// {operation} run term, from the word `at` on; answers the word after it.
-fn listing(words: &[Word<'_>], at: usize, tree: &mut Tree) -> Result<usize, Stop>
-    requires within { at ≤ length words.now }
-    ensures { reading.ListingRead words.now at tree.old tree.new result }
-{
-    if holds(words, at, Kind::Op) {
-        let next = operation(words, at, tree)?;
-        return listing(words, next, tree);
+    // Adds the nodes of the names of the parameters from `first` on.
+    fn name_parameters(&mut self, first: usize) -> Result<(), Stop>
+        requires within { first ≤ length (parsing.parameters_of self.old) }
+        ensures { reading.ParametersNamed first self.old self.new result }
+    {
+        for at in first..self.parameters.len() {
+            let found = self.parameters[at].name;
+            self.add_node(found.place, Construct::Named(found))?;
+        }
+        Ok(())
     }
-    let from = expect(words, at, Kind::Run)?;
-    let main = term(words, from, tree)?;
-    tree.run = place_at(words, at, 0);
-    tree.term = main.node;
-    Ok(main.next)
+
+    // Adds an entry to the table of operations.
+    fn add_operation(&mut self, entry: Operation) -> Result<(), Stop>
+        ensures { reading.OperationAdded entry self.old self.new result }
+    {
+        self.operations.push(entry)?;
+        Ok(())
+    }
 }
 
 // Reads the words of a listing of `length` bytes into the tree.
 pub fn parse(words: &[Word<'_>], length: usize, tree: &mut Tree) -> Result<(), GrammarFault>
     ensures { parsing.Parsed words.now length tree.old tree.new result }
 {
-    match listing(words, 0, tree) {
-        Ok(end) => {
-            if end < words.len() {
-                let place = place_at(words, end, length);
-                Err(GrammarFault::Stuck { place })
-            } else {
-                Ok(())
-            }
-        }
-        Err(stop) => match stop {
-            Stop::At(at) => {
-                let stuck = place_at(words, at, length);
-                Err(GrammarFault::Stuck { place: stuck })
-            }
-            Stop::Memory => Err(GrammarFault::Memory),
-        },
+    let mut parser = Parser::new(words);
+    if let Err(stop) = parser.listing(tree) {
+        return Err(stop.fault(words, length));
     }
+    if parser.at < words.len() {
+        return Err(Stop::At(parser.at).fault(words, length));
+    }
+    Ok(())
 }

@@ -133,6 +133,7 @@ pub const QBIT: usize = 0;
 
 pub const PAIR_END: usize = 2;
 
+// Nodes by their number, and not boxes: equality of types goes by recursion over a table with an entry for each node, and all memory of a load is asked for first.
 #[derive(Drop)]
 pub struct Tree {
     pub(crate) nodes: Vec<Node>,
@@ -181,15 +182,12 @@ impl Tree {
         ensures falls { Falls at result.construct }
         ensures found { (n : Node) → At (parsing.nodes_of self.now) at n → Falls at n.construct → result ≡ n }
     {
-        if at < self.nodes.len() {
-            let node = self.nodes[at];
-            if falls(at, node.construct) {
-                return node;
-            }
-        }
-        Node {
-            place: 0,
-            construct: Construct::Missing,
+        match self.nodes.get(at) {
+            Some(node) if falls(at, node.construct) => *node,
+            _ => Node {
+                place: 0,
+                construct: Construct::Missing,
+            },
         }
     }
 
@@ -249,13 +247,8 @@ fn falls(at: usize, construct: Construct) -> bool
     ensures exact { Falls at construct → result ≡ true }
 {
     match construct {
-        Construct::Bind {
-            binder: _,
-            names: _,
-            right,
-            body,
-        } => right < at && body < at,
-        Construct::Using { names: _, body } => body < at,
+        Construct::Bind { right, body, .. } => right < at && body < at,
+        Construct::Using { body, .. } => body < at,
         Construct::If {
             condition,
             yes,

@@ -1,17 +1,17 @@
-use Rattle.std.proofs.Common.{subst}
-use Rattle.syntax.specs.Machine as m
-use Rattle.syntax.specs.Machine.{this, heads}
-use Rattle.syntax.proofs.Ways as w
-use Rattle.grammar.specs.Reading as reading
-use Rattle.grammar.proofs.parse.parse.Goals as goal
 use Rattle.grammar.proofs.Headers as h
-use Rattle.grammar.proofs.Headers.{same_size}
+use Rattle.grammar.proofs.parse.parse.Goals as goal
 
-pub returns-then-end-words : goal.returns-then-end-words
-returns-then-end-words c = (c.in-Ok.end, w.listing_ends c.args.words.now c.in-Ok.ensures.0.way c.if-end-words.true, c.place_at-place.ensures)
+pub returns-in-Err : goal.returns-in-Err
+returns-in-Err c =
+    let p = c.new-parser in
+    h.not_whole c.args.words.now c.args.length p.result c.args.tree.now c.listing.new.tree p.ensures.words p.ensures.at c.in-Err.stop c.fault.result c.in-Err.ensures c.fault.ensures
 
-pub returns-else-end-words : goal.returns-else-end-words
-returns-else-end-words c = h.whole c.args.words.now c.args.length c.in-Ok.end c.args.tree.now c.listing.new.tree c.if-end-words.false c.in-Ok.ensures
+pub returns-then-parser-words : goal.returns-then-parser-words
+returns-then-parser-words c =
+    let p = c.new-parser in
+    h.goes_on c.args.words.now c.args.length p.result c.args.tree.now c.listing.new.tree p.ensures.words p.ensures.at c.listing.new.self c.fault-then-parser-words.result c.if-parser-words.true c.in_default.ensures c.fault-then-parser-words.ensures
 
-pub returns-in-At : goal.returns-in-At
-returns-in-At c = (c.in-At.at, w.listing_stops c.args.words.now (subst (reading.Halts m.listing c.args.words.now 0 c.args.tree.now) c.in-At.is c.in-Err.ensures), c.place_at-stuck.ensures)
+pub returns : goal.returns
+returns c =
+    let p = c.new-parser in
+    h.whole c.args.words.now c.args.length p.result c.args.tree.now c.listing.new.tree p.ensures.words p.ensures.at c.listing.new.self c.if-parser-words.false c.in_default.ensures

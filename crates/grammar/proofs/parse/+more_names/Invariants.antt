@@ -1,5 +1,0 @@
-use Rattle.std.proofs.Common.{◌-◌, length}
-use Rattle.grammar.proofs.parse.+more_names.Given as goal
-
-abbrev pub decreases-more_names : goal.decreases-more_names
-decreases-more_names l = length l.words.now - l.at

@@ -1,5 +1,0 @@
-use Rattle.std.proofs.Common.{◌-◌, length}
-use Rattle.grammar.proofs.parse.+more_parameters.Given as goal
-
-abbrev pub decreases-more_parameters : goal.decreases-more_parameters
-decreases-more_parameters l = length l.words.now - l.at

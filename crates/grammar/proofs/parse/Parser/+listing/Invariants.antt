@@ -1,0 +1,5 @@
+use Rattle.std.proofs.Common.{◌-◌, length}
+use Rattle.grammar.proofs.parse.Parser.+listing.Given as goal
+
+abbrev pub decreases-listing : goal.decreases-listing
+decreases-listing l = length l.self.now.words.now - l.self.now.at
