@@ -73,7 +73,7 @@ impl State {
             return Ok(false);
         };
         let bit = machine.measure(handle)?;
-        self.finish(base, Value::of(Leaf::Bit(bit)));
+        self.finish(base, Value::from(Leaf::Bit(bit)));
         Ok(true)
     }
 
@@ -136,7 +136,7 @@ impl State {
     ) -> Result<(), Refusal> {
         for at in names.first..names.end {
             let handle = machine.prepare()?;
-            self.set(at, Value::of(Leaf::Handle(handle)));
+            self.set(at, Value::from(Leaf::Handle(handle)));
         }
         Ok(())
     }

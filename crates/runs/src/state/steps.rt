@@ -95,7 +95,7 @@ impl State {
     ) -> Result<bool, Refusal> {
         match program.node(at) {
             Node::Constant(leaf) => {
-                self.focus = Focus::Finished(Value::of(leaf));
+                self.focus = Focus::Finished(Value::from(leaf));
                 Ok(true)
             }
             Node::Use(entry) => {
