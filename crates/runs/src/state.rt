@@ -1,9 +1,11 @@
 // The state of a run: what is entered or finished, what waits for it, finished parts, and the table of bindings.
+ghost use Rattle.std.specs.Prelude.{◌≡◌};
+ghost use Rattle.runs.specs.declared.state.Halt.TheVariants.{Refused};
+
 use crate::value::Value;
-use grammar::tree::{Binder, Range};
 use machine::machine::Machine;
-use machine::order::{Gate, Refusal};
-use rules::program::{Act, Leaf, Node, Program};
+use machine::order::Refusal;
+use rules::program::Program;
 use std::alloc::{AllocError, Global};
 
 mod acts;
@@ -24,6 +26,25 @@ pub struct Frame {
     part: usize,
 }
 
+// Why no step was made.
+#[derive(Clone, Copy)]
+pub enum Halt {
+    // the whole has become a value
+    Ended,
+    // the state is none that a checked listing comes to
+    Stuck,
+    // the machine refused an order
+    Refused(Refusal),
+}
+
+impl From<Refusal> for Halt {
+    ghost from_gives = { λ refusal halt. halt ≡ Refused refusal };
+
+    fn from(refusal: Refusal) -> Halt {
+        Halt::Refused(refusal)
+    }
+}
+
 #[derive(Drop)]
 pub struct State {
     focus: Focus,
@@ -39,10 +60,7 @@ impl State {
     pub fn room(heap: Global, size: usize) -> Result<State, AllocError> {
         let frames = Vec::with_capacity(heap, size)?;
         let values = Vec::with_capacity(heap, size)?;
-        let mut table = Vec::with_capacity(heap, size)?;
-        for _ in 0..size {
-            table.push(Value::empty())?;
-        }
+        let table = vec![in heap; Value::empty(); size]?;
         Ok(State {
             focus: Focus::Entering(0),
             frames,
@@ -61,49 +79,55 @@ impl State {
     // The value of the whole, once it is finished.
     pub fn result(&self) -> Option<Value> {
         match self.focus {
-            Focus::Entering(_) => None,
-            Focus::Finished(value) => {
-                if self.frames.is_empty() {
-                    Some(value)
-                } else {
-                    None
-                }
-            }
+            Focus::Finished(value) if self.frames.is_empty() => Some(value),
+            _ => None,
         }
     }
 
+    // The next step.
+    pub fn step<M: Machine>(&mut self, program: &Program, machine: &mut M) -> Result<(), Halt> {
+        let mut stepper = Stepper {
+            program,
+            machine,
+            state: self,
+        };
+        stepper.step()
+    }
+
     fn entry(&self, at: usize) -> Value {
-        if at < self.table.len() {
-            self.table[at]
-        } else {
-            Value::empty()
-        }
+        self.table.get(at).copied().unwrap_or(Value::empty())
     }
 
     // One entry is altered.
     fn set(&mut self, at: usize, value: Value) {
-        if at < self.table.len() {
-            self.table[at] = value;
+        if let Some(entry) = self.table.get_mut(at) {
+            *entry = value;
         }
     }
 
-    // A node waits for a part, where there is room.
-    fn wait(&mut self, node: usize, part: usize) -> bool {
-        if self.frames.len() < self.frames.capacity() {
-            self.frames.push_reserved(Frame { node, part });
-            true
-        } else {
-            false
+    // A node waits for a part.
+    fn wait(&mut self, node: usize, part: usize) -> Result<(), Halt> {
+        if self.frames.len() == self.frames.capacity() {
+            return Err(Halt::Stuck);
         }
+        self.frames.push_reserved(Frame { node, part });
+        Ok(())
     }
 
-    // A part is finished, where there is room.
-    fn keep(&mut self, value: Value) -> bool {
-        if self.values.len() < self.values.capacity() {
-            self.values.push_reserved(value);
-            true
-        } else {
-            false
+    // A part is finished.
+    fn keep(&mut self, value: Value) -> Result<(), Halt> {
+        if self.values.len() == self.values.capacity() {
+            return Err(Halt::Stuck);
         }
+        self.values.push_reserved(value);
+        Ok(())
     }
+}
+
+// A run that steps: its state, the program, and the machine that it orders.
+#[derive(Drop)]
+struct Stepper<'a, M: Machine> {
+    program: &'a Program,
+    machine: &'a mut M,
+    state: &'a mut State,
 }
