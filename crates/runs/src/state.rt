@@ -95,13 +95,13 @@ impl State {
     }
 
     fn entry(&self, at: usize) -> Value {
-        self.table.get(at).copied().unwrap_or(Value::empty())
+        self.table.get(at).map_or_else(Value::empty, |value| *value)
     }
 
     // One entry is altered.
-    fn set(&mut self, at: usize, value: Value) {
+    fn set(&mut self, at: usize, value: &Value) {
         if let Some(entry) = self.table.get_mut(at) {
-            *entry = value;
+            *entry = *value;
         }
     }
 

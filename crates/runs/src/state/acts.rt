@@ -16,7 +16,9 @@ fn entry_of(program: &Program, at: usize) -> usize {
 
 impl State {
     fn value_at(&self, at: usize) -> Value {
-        self.values.get(at).copied().unwrap_or(Value::empty())
+        self.values
+            .get(at)
+            .map_or_else(Value::empty, |value| *value)
     }
 
     // The handle that the part at `at` is.
@@ -87,14 +89,14 @@ impl<'a, M: Machine> Stepper<'a, M> {
         let root = self.program.root(f);
         for (at, from) in root.names.numbers().zip(base..self.state.values.len()) {
             let value = self.state.value_at(from);
-            self.state.set(at, value);
+            self.state.set(at, &value);
         }
         self.state.values.truncate(base);
         self.state.focus = Focus::Entering(root.body);
     }
 
     // The value of a right side goes to the pattern's names, whole or part by part.
-    pub(super) fn bind(&mut self, names: Range, value: Value) {
+    pub(super) fn bind(&mut self, names: Range, value: &Value) {
         if names.len() == 1 {
             self.state.set(entry_of(self.program, names.first), value);
             return;
@@ -103,7 +105,7 @@ impl<'a, M: Machine> Stepper<'a, M> {
         for at in names.numbers() {
             let end = value.end(first);
             self.state
-                .set(entry_of(self.program, at), value.part(first, end));
+                .set(entry_of(self.program, at), &value.part(first, end));
             first = end;
         }
     }
@@ -112,7 +114,7 @@ impl<'a, M: Machine> Stepper<'a, M> {
     pub(super) fn prepare(&mut self, names: Range) -> Result<(), Refusal> {
         for at in names.numbers() {
             let handle = self.machine.prepare()?;
-            self.state.set(at, Value::from(Leaf::Handle(handle)));
+            self.state.set(at, &Value::from(Leaf::Handle(handle)));
         }
         Ok(())
     }

@@ -81,7 +81,7 @@ impl<'a, M: Machine> Stepper<'a, M> {
         match self.program.node(frame.node) {
             Node::Built { act, parts } => self.resume_built(frame, act, parts, value)?,
             Node::Bind { names, body, .. } => {
-                self.bind(names, value);
+                self.bind(names, &value);
                 self.state.focus = Focus::Entering(body);
             }
             Node::If { yes, other, .. } => {
