@@ -94,15 +94,15 @@ impl State {
         stepper.step()
     }
 
-    fn entry(&self, at: usize) -> Value {
-        self.table.get(at).map_or_else(Value::empty, |value| *value)
+    fn entry(&self, at: usize) -> Result<&Value, Halt> {
+        self.table.get(at).ok_or(Halt::Stuck)
     }
 
     // One entry is altered.
-    fn set(&mut self, at: usize, value: &Value) {
-        if let Some(entry) = self.table.get_mut(at) {
-            *entry = *value;
-        }
+    fn set(&mut self, at: usize, value: &Value) -> Result<(), Halt> {
+        let entry = self.table.get_mut(at).ok_or(Halt::Stuck)?;
+        *entry = *value;
+        Ok(())
     }
 
     // A node waits for a part.

@@ -15,15 +15,13 @@ fn entry_of(program: &Program, at: usize) -> usize {
 }
 
 impl State {
-    fn value_at(&self, at: usize) -> Value {
-        self.values
-            .get(at)
-            .map_or_else(Value::empty, |value| *value)
+    fn value_at(&self, at: usize) -> Result<&Value, Halt> {
+        self.values.get(at).ok_or(Halt::Stuck)
     }
 
     // The handle that the part at `at` is.
     fn handle_at(&self, at: usize) -> Result<u8, Halt> {
-        self.value_at(at).handle().ok_or(Halt::Stuck)
+        self.value_at(at)?.handle().ok_or(Halt::Stuck)
     }
 
     // The tuple of the latest finished parts.
@@ -56,10 +54,7 @@ impl<'a, M: Machine> Stepper<'a, M> {
             }
             Act::Meas => self.measure(base),
             Act::Gate(gate) => self.apply(base, gate),
-            Act::Call(f) => {
-                self.call(base, f);
-                Ok(())
-            }
+            Act::Call(f) => self.call(base, f),
         }
     }
 
@@ -85,36 +80,37 @@ impl<'a, M: Machine> Stepper<'a, M> {
     }
 
     // The arguments become the parameters' values, and the body comes next.
-    fn call(&mut self, base: usize, f: usize) {
+    fn call(&mut self, base: usize, f: usize) -> Result<(), Halt> {
         let root = self.program.root(f);
         for (at, from) in root.names.numbers().zip(base..self.state.values.len()) {
-            let value = self.state.value_at(from);
-            self.state.set(at, &value);
+            let value = *self.state.value_at(from)?;
+            self.state.set(at, &value)?;
         }
         self.state.values.truncate(base);
         self.state.focus = Focus::Entering(root.body);
+        Ok(())
     }
 
     // The value of a right side goes to the pattern's names, whole or part by part.
-    pub(super) fn bind(&mut self, names: Range, value: &Value) {
+    pub(super) fn bind(&mut self, names: Range, value: &Value) -> Result<(), Halt> {
         if names.len() == 1 {
-            self.state.set(entry_of(self.program, names.first), value);
-            return;
+            return self.state.set(entry_of(self.program, names.first), value);
         }
         let mut first = 1usize;
         for at in names.numbers() {
             let end = value.end(first);
             self.state
-                .set(entry_of(self.program, at), &value.part(first, end));
+                .set(entry_of(self.program, at), &value.part(first, end))?;
             first = end;
         }
+        Ok(())
     }
 
     // A handle is prepared for each name, in order.
-    pub(super) fn prepare(&mut self, names: Range) -> Result<(), Refusal> {
+    pub(super) fn prepare(&mut self, names: Range) -> Result<(), Halt> {
         for at in names.numbers() {
             let handle = self.machine.prepare()?;
-            self.state.set(at, &Value::from(Leaf::Handle(handle)));
+            self.state.set(at, &Value::from(Leaf::Handle(handle)))?;
         }
         Ok(())
     }

@@ -65,7 +65,7 @@ impl<'a, M: Machine> Stepper<'a, M> {
     fn leaf(&mut self, at: usize) -> Result<(), Halt> {
         match self.program.node(at) {
             Node::Constant(leaf) => self.state.focus = Focus::Finished(Value::from(leaf)),
-            Node::Use(entry) => self.state.focus = Focus::Finished(self.state.entry(entry)),
+            Node::Use(entry) => self.state.focus = Focus::Finished(*self.state.entry(entry)?),
             Node::Using { names, body } => {
                 self.prepare(names)?;
                 self.state.focus = Focus::Entering(body);
@@ -81,7 +81,7 @@ impl<'a, M: Machine> Stepper<'a, M> {
         match self.program.node(frame.node) {
             Node::Built { act, parts } => self.resume_built(frame, act, parts, value)?,
             Node::Bind { names, body, .. } => {
-                self.bind(names, &value);
+                self.bind(names, &value)?;
                 self.state.focus = Focus::Entering(body);
             }
             Node::If { yes, other, .. } => {
