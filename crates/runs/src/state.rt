@@ -19,11 +19,11 @@ pub enum Focus {
     Finished(Value),
 }
 
-// A node that waits for one of its parts: the place of that part in the table of parts.
+// A node that waits for one of its parts: the place of that part in the table of parts, if it stands there.
 #[derive(Clone, Copy)]
 pub struct Frame {
     node: usize,
-    part: usize,
+    part: Option<usize>,
 }
 
 // Why no step was made.
@@ -106,7 +106,7 @@ impl State {
     }
 
     // A node waits for a part.
-    fn wait(&mut self, node: usize, part: usize) -> Result<(), Halt> {
+    fn wait(&mut self, node: usize, part: Option<usize>) -> Result<(), Halt> {
         if self.frames.len() == self.frames.capacity() {
             return Err(Halt::Stuck);
         }

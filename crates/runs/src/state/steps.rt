@@ -7,10 +7,10 @@ use grammar::tree::Range;
 use machine::machine::Machine;
 use rules::program::{Act, Node, Program};
 
-// The part of a node that runs first: its place in the table of parts, and its node.
+// The part of a node that runs first: its place in the table of parts, if it stands there, and its node.
 #[derive(Clone, Copy)]
 struct Inner {
-    part: usize,
+    part: Option<usize>,
     node: usize,
 }
 
@@ -18,25 +18,16 @@ struct Inner {
 fn inner_of(program: &Program, at: usize) -> Option<Inner>
     ensures { IfSome result (λ i. i.node < at) }
 {
-    let inner = match program.node(at) {
+    let (part, node) = match program.node(at) {
         Node::Built { parts, .. } => {
             let part = parts.numbers().next_back()?;
-            Inner {
-                part,
-                node: program.part(part),
-            }
+            (Some(part), program.part(part))
         }
-        Node::Bind { right, .. } => Inner {
-            part: 0,
-            node: right,
-        },
-        Node::If { test, .. } => Inner {
-            part: 0,
-            node: test,
-        },
+        Node::Bind { right, .. } => (None, right),
+        Node::If { test, .. } => (None, test),
         _ => return None,
     };
-    (inner.node < at).then_some(inner)
+    (node < at).then_some(Inner { part, node })
 }
 
 impl<'a, M: Machine> Stepper<'a, M> {
@@ -101,11 +92,12 @@ impl<'a, M: Machine> Stepper<'a, M> {
         value: Value,
     ) -> Result<(), Halt> {
         self.state.keep(value)?;
-        if frame.part <= parts.first {
+        let part = frame.part.ok_or(Halt::Stuck)?;
+        if part <= parts.first {
             return self.act(act, parts);
         }
-        let part = frame.part - 1;
-        self.state.wait(frame.node, part)?;
-        self.enter(self.program.part(part))
+        let next = part - 1;
+        self.state.wait(frame.node, Some(next))?;
+        self.enter(self.program.part(next))
     }
 }
