@@ -67,6 +67,7 @@ fn examine<'a>(listing: &'a [u8], room: Room<'a>, capacity: u8) -> Result<Run, F
 }
 
 // Copies a text to the buffer's front, where it suffices; answers the text's length.
+// By a test and a range: after a write through `get_mut` a proof knows the length of the buffer alone.
 fn copy_to_front(buffer: &mut [u8], text: &[u8]) -> Result<usize, Fault>
     ensures { Copied text.now buffer.old buffer.new result }
 {
