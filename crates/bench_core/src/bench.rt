@@ -155,16 +155,16 @@ impl<M: Machine + Drop> Bench<M> {
 
     // The need of the listing that is loaded.
     pub fn need(&self) -> Option<Need> {
-        self.run.as_ref().map(|run| run.need())
+        self.run.as_ref().map(Run::need)
     }
 
     // The steps that the run has taken.
     pub fn taken(&self) -> Option<u32> {
-        self.run.as_ref().map(|run| run.taken())
+        self.run.as_ref().map(Run::taken)
     }
 
     // Is a run loaded that has ended?
     pub fn has_ended(&self) -> bool {
-        self.run.as_ref().is_some_and(|run| run.has_ended())
+        self.run.as_ref().is_some_and(Run::has_ended)
     }
 }

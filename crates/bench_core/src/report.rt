@@ -6,7 +6,7 @@ use runs::run::Run;
 use runs::value::{Item, Value};
 use texts::text::Text;
 
-// A report as it is written: a text of fixed room, since a `Display` cannot say that its writer has room.
+// A report as it is written. No `Display`: its contract cannot say that a writer never fails.
 #[derive(Drop)]
 struct Report<'a> {
     program: &'a Program,

@@ -1,6 +1,4 @@
 // What the program answers to its input.
-ghost use Rattle.std.specs.Prelude.{◌≤◌, length, IfOk};
-
 use crate::bench::Bench;
 use faults::fault::Fault;
 use machine::script::Script;
@@ -20,14 +18,14 @@ fn script_bits(heap: Global, line: &[u8]) -> Result<Vec<u8>, AllocError> {
         .collect(heap)
 }
 
-// Loads the listing, runs it to its end, and writes the report; answers its length.
-fn run_listing(heap: Global, bits: &[u8], listing: &[u8], page: &mut [u8]) -> Result<usize, Fault>
-    ensures { IfOk result (λ n. n ≤ length page.old) }
-{
+// Loads the listing, runs it to its end, and answers the report.
+fn run_listing(heap: Global, bits: &[u8], listing: &[u8]) -> Result<Vec<u8>, Fault> {
     let mut bench = Bench::open(Script::new(bits, CAPACITY));
     bench.load(heap, listing)?;
     bench.advance(u32::MAX)?;
-    bench.report(page)
+    let mut page = [0u8; PAGE];
+    let length = bench.report(&mut page)?;
+    Ok(Vec::from_slice(heap, &page[..length])?)
 }
 
 // The report, or the refused line, for a line of bits and then a listing, which is empty if no line feed comes.
@@ -35,9 +33,8 @@ pub fn respond(heap: Global, input: &[u8]) -> Result<Vec<u8>, AllocError> {
     let mut pieces = input.splitn(2, |byte| *byte == b'\n');
     let bits = script_bits(heap, pieces.next().unwrap_or(&[]))?;
     let listing = pieces.next().unwrap_or(&[]);
-    let mut page = [0u8; PAGE];
-    match run_listing(heap, bits.as_slice(), listing, &mut page) {
-        Ok(length) => Vec::from_slice(heap, &page[..length]),
+    match run_listing(heap, bits.as_slice(), listing) {
+        Ok(report) => Ok(report),
         Err(fault) => {
             let diagnosis = fault.diagnosis().ok_or(AllocError)?;
             Vec::from_slice(heap, refused_line(diagnosis).bytes())

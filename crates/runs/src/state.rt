@@ -104,27 +104,18 @@ impl State {
         *entry = *value;
         Ok(())
     }
-
-    // A node waits for a part.
-    fn wait(&mut self, node: usize, part: Option<usize>) -> Result<(), Halt> {
-        if self.frames.len() == self.frames.capacity() {
-            return Err(Halt::Stuck);
-        }
-        self.frames.push_reserved(Frame { node, part });
-        Ok(())
-    }
-
-    // A part is finished.
-    fn keep(&mut self, value: Value) -> Result<(), Halt> {
-        if self.values.len() == self.values.capacity() {
-            return Err(Halt::Stuck);
-        }
-        self.values.push_reserved(value);
-        Ok(())
-    }
 }
 
-// A run that steps: its state, the program, and the machine that it orders.
+// One more item, where there is room.
+fn push_within_capacity<T: Copy>(items: &mut Vec<T>, item: T) -> Result<(), Halt> {
+    if items.len() == items.capacity() {
+        return Err(Halt::Stuck);
+    }
+    items.push_reserved(item);
+    Ok(())
+}
+
+// What a step works on: the program, the machine that it orders, and the state.
 #[derive(Drop)]
 struct Stepper<'a, M: Machine> {
     program: &'a Program,

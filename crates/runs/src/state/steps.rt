@@ -1,7 +1,7 @@
 // One step of a run.
 ghost use Rattle.std.specs.Prelude.{◌<◌, IfSome};
 
-use super::{Focus, Frame, Halt, Stepper};
+use super::{Focus, Frame, Halt, Stepper, push_within_capacity};
 use crate::value::Value;
 use grammar::tree::Range;
 use machine::machine::Machine;
@@ -46,10 +46,15 @@ impl<'a, M: Machine> Stepper<'a, M> {
     fn enter(&mut self, start: usize) -> Result<(), Halt> {
         let mut at = start;
         while let Some(inner) = inner_of(self.program, at) {
-            self.state.wait(at, inner.part)?;
+            self.wait(at, inner.part)?;
             at = inner.node;
         }
         self.leaf(at)
+    }
+
+    // The node waits for one of its parts.
+    fn wait(&mut self, node: usize, part: Option<usize>) -> Result<(), Halt> {
+        push_within_capacity(&mut self.state.frames, Frame { node, part })
     }
 
     // A term with no part that runs before it.
@@ -91,13 +96,13 @@ impl<'a, M: Machine> Stepper<'a, M> {
         parts: Range,
         value: Value,
     ) -> Result<(), Halt> {
-        self.state.keep(value)?;
+        push_within_capacity(&mut self.state.values, value)?;
         let part = frame.part.ok_or(Halt::Stuck)?;
         if part <= parts.first {
             return self.act(act, parts);
         }
         let next = part - 1;
-        self.state.wait(frame.node, Some(next))?;
+        self.wait(frame.node, Some(next))?;
         self.enter(self.program.part(next))
     }
 }
