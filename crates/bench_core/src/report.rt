@@ -14,7 +14,7 @@ struct Report<'a> {
     text: Text,
 }
 
-impl<'a> Report<'a> {
+impl Report<'_> {
     // The type of a node, one with at most `left` leaves.
     #[cycle(type_text)]
     fn push_type(&mut self, node: usize, left: usize) {

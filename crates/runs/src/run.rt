@@ -55,23 +55,23 @@ impl Run {
         self.state.result().is_some()
     }
 
+    // What was done, after so many steps.
+    fn done(&self, steps: u32) -> Done {
+        Done {
+            steps,
+            ended: self.has_ended(),
+        }
+    }
+
     // Takes `count` steps, or all that remain.
     pub fn advance<M: Machine>(&mut self, machine: &mut M, count: u32) -> Result<Done, Refusal> {
         for steps in 0..count {
             match self.state.step(&self.program, machine) {
                 Ok(()) => self.taken = self.taken.saturating_add(1),
+                Err(Halt::Ended | Halt::Stuck) => return Ok(self.done(steps)),
                 Err(Halt::Refused(refusal)) => return Err(refusal),
-                Err(Halt::Ended | Halt::Stuck) => {
-                    return Ok(Done {
-                        steps,
-                        ended: self.has_ended(),
-                    });
-                }
             }
         }
-        Ok(Done {
-            steps: count,
-            ended: self.has_ended(),
-        })
+        Ok(self.done(count))
     }
 }

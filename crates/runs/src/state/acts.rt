@@ -3,7 +3,7 @@ use super::{Focus, Halt, State, Stepper};
 use crate::value::{ITEMS, Item, Value};
 use grammar::tree::Range;
 use machine::machine::Machine;
-use machine::order::{Gate, Refusal};
+use machine::order::Gate;
 use rules::program::{Act, Leaf, Node, Program};
 
 // The entry that a name of a pattern means: a new name's own, or the one that a set alters.
@@ -42,7 +42,7 @@ impl State {
     }
 }
 
-impl<'a, M: Machine> Stepper<'a, M> {
+impl<M: Machine> Stepper<'_, M> {
     // A construct whose parts are values.
     pub(super) fn act(&mut self, act: Act, parts: Range) -> Result<(), Halt> {
         let base = self.state.values.len().saturating_sub(parts.len());

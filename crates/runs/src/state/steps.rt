@@ -30,7 +30,7 @@ fn inner_of(program: &Program, at: usize) -> Option<Inner>
     (node < at).then_some(Inner { part, node })
 }
 
-impl<'a, M: Machine> Stepper<'a, M> {
+impl<M: Machine> Stepper<'_, M> {
     // The next step.
     pub(super) fn step(&mut self) -> Result<(), Halt> {
         match self.state.focus {
