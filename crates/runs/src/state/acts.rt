@@ -25,14 +25,14 @@ impl State {
     }
 
     // The tuple of the latest finished parts.
-    fn gathered(&self, base: usize) -> Value {
-        let parts = self.values.as_slice().get(base..).unwrap_or(&[]);
+    fn gathered(&self, base: usize) -> Result<Value, Halt> {
+        let parts = self.values.as_slice().get(base..).ok_or(Halt::Stuck)?;
         let mut whole = Value::empty();
         whole.push(Item::Tuple(parts.len().min(ITEMS) as u8));
         for part in parts {
             whole.append(part);
         }
-        whole
+        Ok(whole)
     }
 
     // The parts from `base` on are gone, and this is finished.
@@ -48,7 +48,7 @@ impl<M: Machine> Stepper<'_, M> {
         let base = self.state.values.len().saturating_sub(parts.len());
         match act {
             Act::Tuple => {
-                let whole = self.state.gathered(base);
+                let whole = self.state.gathered(base)?;
                 self.state.finish(base, whole);
                 Ok(())
             }
@@ -74,7 +74,7 @@ impl<M: Machine> Stepper<'_, M> {
         }
         let second = self.state.handle_at(base.saturating_add(1))?;
         self.machine.gate(gate, &[first, second])?;
-        let pair = self.state.gathered(base);
+        let pair = self.state.gathered(base)?;
         self.state.finish(base, pair);
         Ok(())
     }

@@ -55,7 +55,7 @@ impl Value {
         &self.items[..self.count]
     }
 
-    // The item at `at`, or the leaf unit where there is none.
+    // The item at `at`, or the leaf unit where there is none. No `Option`: a value is asked only for items that it holds.
     pub fn item(&self, at: usize) -> Item
         ensures item { result ≡ slice_index_or (held self.now) at unit_item }
         ensures inner { Inner at self.now.count result }
