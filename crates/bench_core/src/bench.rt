@@ -67,11 +67,12 @@ fn examine<'a>(listing: &'a [u8], room: Room<'a>, capacity: u8) -> Result<Run, F
 }
 
 // Copies a text to the buffer's front, where it suffices; answers the text's length.
+// By a test and a range: after a write through `get_mut` a proof knows the length of the buffer alone.
 fn copy_to_front(buffer: &mut [u8], text: &[u8]) -> Result<usize, Fault>
     ensures { Copied text.now buffer.old buffer.new result }
 {
     if text.len() > buffer.len() {
-        return Err(Fault::Bench(BenchFault::Short));
+        return Err(BenchFault::Short.into());
     }
     buffer[..text.len()].copy_from_slice(text);
     Ok(text.len())
@@ -99,10 +100,10 @@ impl<M: Machine + Drop> Bench<M> {
         ensures same { IfRefused result (self.new ≡ self.old) }
     {
         if self.run.is_some() {
-            return Err(Fault::Bench(BenchFault::Loaded));
+            return Err(BenchFault::Loaded.into());
         }
         if listing.len() > LONGEST {
-            return Err(Fault::Bench(BenchFault::TooLong));
+            return Err(BenchFault::TooLong.into());
         }
         let room = Room::new(heap)?;
         let run = examine(listing, room, self.machine.capacity())?;
@@ -113,16 +114,11 @@ impl<M: Machine + Drop> Bench<M> {
 
     // Takes `count` steps of the run, or all that remain.
     pub fn advance(&mut self, count: u32) -> Result<Done, Fault> {
-        match &mut self.run {
-            None => Err(Fault::Bench(BenchFault::Unloaded)),
-            Some(run) => {
-                if run.has_ended() {
-                    return Err(Fault::Bench(BenchFault::Ended));
-                }
-                let done = run.advance(&mut self.machine, count)?;
-                Ok(done)
-            }
+        let run = self.run.as_mut().ok_or(BenchFault::Unloaded)?;
+        if run.has_ended() {
+            return Err(BenchFault::Ended.into());
         }
+        Ok(run.advance(&mut self.machine, count)?)
     }
 
     // Ends any run, clears the machine and empties the bench.
@@ -138,12 +134,8 @@ impl<M: Machine + Drop> Bench<M> {
     pub fn report(&self, buffer: &mut [u8]) -> Result<usize, Fault>
         ensures { Fronted buffer.old buffer.new result }
     {
-        let Some(run) = &self.run else {
-            return Err(Fault::Bench(BenchFault::Unloaded));
-        };
-        let Some(value) = run.result() else {
-            return Err(Fault::Bench(BenchFault::Running));
-        };
+        let run = self.run.as_ref().ok_or(BenchFault::Unloaded)?;
+        let value = run.result().ok_or(BenchFault::Running)?;
         let text = report_text(run, &value);
         copy_to_front(buffer, text.bytes())
     }
@@ -163,25 +155,16 @@ impl<M: Machine + Drop> Bench<M> {
 
     // The need of the listing that is loaded.
     pub fn need(&self) -> Option<Need> {
-        match &self.run {
-            None => None,
-            Some(run) => Some(run.need()),
-        }
+        self.run.as_ref().map(Run::need)
     }
 
     // The steps that the run has taken.
     pub fn taken(&self) -> Option<u32> {
-        match &self.run {
-            None => None,
-            Some(run) => Some(run.taken()),
-        }
+        self.run.as_ref().map(Run::taken)
     }
 
     // Is a run loaded that has ended?
     pub fn has_ended(&self) -> bool {
-        match &self.run {
-            None => false,
-            Some(run) => run.has_ended(),
-        }
+        self.run.as_ref().is_some_and(Run::has_ended)
     }
 }

@@ -1,6 +1,4 @@
 // What the program answers to its input.
-ghost use Rattle.std.specs.Prelude.{◌≤◌, length};
-
 use crate::bench::Bench;
 use faults::fault::Fault;
 use machine::script::Script;
@@ -13,46 +11,33 @@ const CAPACITY: u8 = 64;
 // More than the bytes of any report.
 const PAGE: usize = 256;
 
-// The place of the first line feed, or the length.
-fn line_end(input: &[u8]) -> usize
-    ensures { result ≤ length input.now }
-{
-    for (at, byte) in input.iter().enumerate() {
-        if *byte == 10 {
-            return at;
-        }
-    }
-    input.len()
-}
-
 // The line of bits as a script: 1 for the byte "1", 0 for others.
 fn script_bits(heap: Global, line: &[u8]) -> Result<Vec<u8>, AllocError> {
-    let mut bits = Vec::with_capacity(heap, line.len())?;
-    for byte in line {
-        bits.push(if *byte == b'1' { 1 } else { 0 })?;
-    }
-    Ok(bits)
+    line.iter()
+        .map(|byte| u8::from(*byte == b'1'))
+        .collect(heap)
 }
 
-// Loads the listing, runs it to its end, and writes the report; answers its length.
-fn run_listing(heap: Global, bits: &[u8], listing: &[u8], page: &mut [u8]) -> Result<usize, Fault> {
+// Loads the listing, runs it to its end, and answers the report.
+fn run_listing(heap: Global, bits: &[u8], listing: &[u8]) -> Result<Vec<u8>, Fault> {
     let mut bench = Bench::open(Script::new(bits, CAPACITY));
     bench.load(heap, listing)?;
     bench.advance(u32::MAX)?;
-    bench.report(page)
+    let mut page = [0u8; PAGE];
+    let length = bench.report(&mut page)?;
+    Ok(Vec::from_slice(heap, &page[..length])?)
 }
 
 // The report, or the refused line, for a line of bits and then a listing, which is empty if no line feed comes.
 pub fn respond(heap: Global, input: &[u8]) -> Result<Vec<u8>, AllocError> {
-    let end = line_end(input);
-    let bits = script_bits(heap, &input[..end])?;
-    let start = end.saturating_add(1).min(input.len());
-    let mut page = [0u8; PAGE];
-    match run_listing(heap, bits.as_slice(), &input[start..], &mut page) {
-        Ok(length) => Vec::from_slice(heap, &page[..length.min(PAGE)]),
-        Err(fault) => match fault.diagnosis() {
-            Some(diagnosis) => Vec::from_slice(heap, refused_line(diagnosis).bytes()),
-            None => Err(AllocError),
-        },
+    let mut pieces = input.splitn(2, |byte| *byte == b'\n');
+    let bits = script_bits(heap, pieces.next().unwrap_or(&[]))?;
+    let listing = pieces.next().unwrap_or(&[]);
+    match run_listing(heap, bits.as_slice(), listing) {
+        Ok(report) => Ok(report),
+        Err(fault) => {
+            let diagnosis = fault.diagnosis().ok_or(AllocError)?;
+            Vec::from_slice(heap, refused_line(diagnosis).bytes())
+        }
     }
 }

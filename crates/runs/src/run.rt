@@ -1,5 +1,5 @@
 // A run of a program, from a load to the next clear.
-use crate::state::State;
+use crate::state::{Halt, State};
 use crate::value::Value;
 use machine::machine::Machine;
 use machine::order::Refusal;
@@ -55,19 +55,23 @@ impl Run {
         self.state.result().is_some()
     }
 
-    // Takes `count` steps, or all that remain.
-    pub fn advance<M: Machine>(&mut self, machine: &mut M, count: u32) -> Result<Done, Refusal> {
-        let mut steps = 0;
-        while steps < count && !self.has_ended() {
-            if !self.state.step(&self.program, machine)? {
-                break;
-            }
-            steps += 1;
-            self.taken = self.taken.saturating_add(1);
-        }
-        Ok(Done {
+    // What was done, after so many steps.
+    fn done(&self, steps: u32) -> Done {
+        Done {
             steps,
             ended: self.has_ended(),
-        })
+        }
+    }
+
+    // Takes `count` steps, or all that remain.
+    pub fn advance<M: Machine>(&mut self, machine: &mut M, count: u32) -> Result<Done, Refusal> {
+        for steps in 0..count {
+            match self.state.step(&self.program, machine) {
+                Ok(()) => self.taken = self.taken.saturating_add(1),
+                Err(Halt::Ended | Halt::Stuck) => return Ok(self.done(steps)),
+                Err(Halt::Refused(refusal)) => return Err(refusal),
+            }
+        }
+        Ok(self.done(count))
     }
 }

@@ -1,9 +1,11 @@
 // The state of a run: what is entered or finished, what waits for it, finished parts, and the table of bindings.
+ghost use Rattle.std.specs.Prelude.{◌≡◌};
+ghost use Rattle.runs.specs.declared.state.Halt.TheVariants.{Refused};
+
 use crate::value::Value;
-use grammar::tree::{Binder, Range};
 use machine::machine::Machine;
-use machine::order::{Gate, Refusal};
-use rules::program::{Act, Leaf, Node, Program};
+use machine::order::Refusal;
+use rules::program::Program;
 use std::alloc::{AllocError, Global};
 
 mod acts;
@@ -17,11 +19,30 @@ pub enum Focus {
     Finished(Value),
 }
 
-// A node that waits for one of its parts: the place of that part in the table of parts.
+// A node that waits for one of its parts: the place of that part in the table of parts, if it stands there.
 #[derive(Clone, Copy)]
 pub struct Frame {
     node: usize,
-    part: usize,
+    part: Option<usize>,
+}
+
+// Why no step was made.
+#[derive(Clone, Copy)]
+pub enum Halt {
+    // the whole has become a value
+    Ended,
+    // the state is none that a checked listing comes to
+    Stuck,
+    // the machine refused an order
+    Refused(Refusal),
+}
+
+impl From<Refusal> for Halt {
+    ghost from_gives = { λ refusal halt. halt ≡ Refused refusal };
+
+    fn from(refusal: Refusal) -> Halt {
+        Halt::Refused(refusal)
+    }
 }
 
 #[derive(Drop)]
@@ -39,10 +60,7 @@ impl State {
     pub fn room(heap: Global, size: usize) -> Result<State, AllocError> {
         let frames = Vec::with_capacity(heap, size)?;
         let values = Vec::with_capacity(heap, size)?;
-        let mut table = Vec::with_capacity(heap, size)?;
-        for _ in 0..size {
-            table.push(Value::empty())?;
-        }
+        let table = vec![in heap; Value::empty(); size]?;
         Ok(State {
             focus: Focus::Entering(0),
             frames,
@@ -61,49 +79,46 @@ impl State {
     // The value of the whole, once it is finished.
     pub fn result(&self) -> Option<Value> {
         match self.focus {
-            Focus::Entering(_) => None,
-            Focus::Finished(value) => {
-                if self.frames.is_empty() {
-                    Some(value)
-                } else {
-                    None
-                }
-            }
+            Focus::Finished(value) if self.frames.is_empty() => Some(value),
+            _ => None,
         }
     }
 
-    fn entry(&self, at: usize) -> Value {
-        if at < self.table.len() {
-            self.table[at]
-        } else {
-            Value::empty()
-        }
+    // The next step.
+    pub fn step<M: Machine>(&mut self, program: &Program, machine: &mut M) -> Result<(), Halt> {
+        let mut stepper = Stepper {
+            program,
+            machine,
+            state: self,
+        };
+        stepper.step()
+    }
+
+    fn entry(&self, at: usize) -> Result<&Value, Halt> {
+        self.table.get(at).ok_or(Halt::Stuck)
     }
 
     // One entry is altered.
-    fn set(&mut self, at: usize, value: Value) {
-        if at < self.table.len() {
-            self.table[at] = value;
-        }
+    fn set(&mut self, at: usize, value: &Value) -> Result<(), Halt> {
+        let entry = self.table.get_mut(at).ok_or(Halt::Stuck)?;
+        *entry = *value;
+        Ok(())
     }
+}
 
-    // A node waits for a part, where there is room.
-    fn wait(&mut self, node: usize, part: usize) -> bool {
-        if self.frames.len() < self.frames.capacity() {
-            self.frames.push_reserved(Frame { node, part });
-            true
-        } else {
-            false
-        }
+// One more item, where there is room.
+fn push_within_capacity<T: Copy>(items: &mut Vec<T>, item: T) -> Result<(), Halt> {
+    if items.len() == items.capacity() {
+        return Err(Halt::Stuck);
     }
+    items.push_reserved(item);
+    Ok(())
+}
 
-    // A part is finished, where there is room.
-    fn keep(&mut self, value: Value) -> bool {
-        if self.values.len() < self.values.capacity() {
-            self.values.push_reserved(value);
-            true
-        } else {
-            false
-        }
-    }
+// What a step works on: the program, the machine that it orders, and the state.
+#[derive(Drop)]
+struct Stepper<'a, M: Machine> {
+    program: &'a Program,
+    machine: &'a mut M,
+    state: &'a mut State,
 }

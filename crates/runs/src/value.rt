@@ -15,6 +15,7 @@ pub enum Item {
     Tuple(u8),
 }
 
+// An array with a count: a step copies values in place, and the library's buffers with a length of their own are not `Copy`.
 #[derive(Clone, Copy)]
 pub struct Value {
     items: [Item; ITEMS],

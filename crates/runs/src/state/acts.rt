@@ -1,14 +1,10 @@
 // What a step does with finished parts.
-use super::{Focus, State};
+use super::{Focus, Halt, State, Stepper};
 use crate::value::{ITEMS, Item, Value};
 use grammar::tree::Range;
 use machine::machine::Machine;
-use machine::order::{Gate, Refusal};
+use machine::order::Gate;
 use rules::program::{Act, Leaf, Node, Program};
-
-fn count(range: Range) -> usize {
-    range.end.saturating_sub(range.first)
-}
 
 // The entry that a name of a pattern means: a new name's own, or the one that a set alters.
 fn entry_of(program: &Program, at: usize) -> usize {
@@ -19,23 +15,24 @@ fn entry_of(program: &Program, at: usize) -> usize {
 }
 
 impl State {
-    fn value_at(&self, at: usize) -> Value {
-        if at < self.values.len() {
-            self.values[at]
-        } else {
-            Value::empty()
-        }
+    fn value_at(&self, at: usize) -> Result<&Value, Halt> {
+        self.values.get(at).ok_or(Halt::Stuck)
+    }
+
+    // The handle that the part at `at` is.
+    fn handle_at(&self, at: usize) -> Result<u8, Halt> {
+        self.value_at(at)?.handle().ok_or(Halt::Stuck)
     }
 
     // The tuple of the latest finished parts.
-    fn gathered(&self, base: usize) -> Value {
+    fn gathered(&self, base: usize) -> Result<Value, Halt> {
+        let parts = self.values.as_slice().get(base..).ok_or(Halt::Stuck)?;
         let mut whole = Value::empty();
-        let count = self.values.len().saturating_sub(base);
-        whole.push(Item::Tuple(count.min(ITEMS) as u8));
-        for at in base..self.values.len() {
-            whole.append(&self.value_at(at));
+        whole.push(Item::Tuple(parts.len().min(ITEMS) as u8));
+        for part in parts {
+            whole.append(part);
         }
-        whole
+        Ok(whole)
     }
 
     // The parts from `base` on are gone, and this is finished.
@@ -43,100 +40,77 @@ impl State {
         self.values.truncate(base);
         self.focus = Focus::Finished(value);
     }
+}
 
-    // A construct whose parts are values. Answers whether a step was made.
-    pub(super) fn act<M: Machine>(
-        &mut self,
-        program: &Program,
-        act: Act,
-        parts: Range,
-        machine: &mut M,
-    ) -> Result<bool, Refusal> {
-        let base = self.values.len().saturating_sub(count(parts));
+impl<M: Machine> Stepper<'_, M> {
+    // A construct whose parts are values.
+    pub(super) fn act(&mut self, act: Act, parts: Range) -> Result<(), Halt> {
+        let base = self.state.values.len().saturating_sub(parts.len());
         match act {
             Act::Tuple => {
-                let whole = self.gathered(base);
-                self.finish(base, whole);
-                Ok(true)
+                let whole = self.state.gathered(base)?;
+                self.state.finish(base, whole);
+                Ok(())
             }
-            Act::Meas => self.measure(base, machine),
-            Act::Gate(gate) => self.apply(base, gate, machine),
-            Act::Call(f) => {
-                self.call(program, base, f);
-                Ok(true)
-            }
+            Act::Meas => self.measure(base),
+            Act::Gate(gate) => self.apply(base, gate),
+            Act::Call(f) => self.call(base, f),
         }
     }
 
-    fn measure<M: Machine>(&mut self, base: usize, machine: &mut M) -> Result<bool, Refusal> {
-        let Some(handle) = self.value_at(base).handle() else {
-            return Ok(false);
-        };
-        let bit = machine.measure(handle)?;
-        self.finish(base, Value::of(Leaf::Bit(bit)));
-        Ok(true)
+    fn measure(&mut self, base: usize) -> Result<(), Halt> {
+        let handle = self.state.handle_at(base)?;
+        let bit = self.machine.measure(handle)?;
+        self.state.finish(base, Value::from(Leaf::Bit(bit)));
+        Ok(())
     }
 
-    fn apply<M: Machine>(
-        &mut self,
-        base: usize,
-        gate: Gate,
-        machine: &mut M,
-    ) -> Result<bool, Refusal> {
-        let value = self.value_at(base);
-        let Some(first) = value.handle() else {
-            return Ok(false);
-        };
+    fn apply(&mut self, base: usize, gate: Gate) -> Result<(), Halt> {
+        let first = self.state.handle_at(base)?;
         if gate.width() == 1 {
-            machine.gate(gate, &[first])?;
-            self.finish(base, value);
-            return Ok(true);
+            self.machine.gate(gate, &[first])?;
+            self.state.finish(base, Value::from(Leaf::Handle(first)));
+            return Ok(());
         }
-        let Some(second) = self.value_at(base.saturating_add(1)).handle() else {
-            return Ok(false);
-        };
-        machine.gate(gate, &[first, second])?;
-        let pair = self.gathered(base);
-        self.finish(base, pair);
-        Ok(true)
+        let second = self.state.handle_at(base.saturating_add(1))?;
+        self.machine.gate(gate, &[first, second])?;
+        let pair = self.state.gathered(base)?;
+        self.state.finish(base, pair);
+        Ok(())
     }
 
     // The arguments become the parameters' values, and the body comes next.
-    fn call(&mut self, program: &Program, base: usize, f: usize) {
-        let root = program.root(f);
-        let mut from = base;
-        for at in root.names.first..root.names.end {
-            let value = self.value_at(from);
-            self.set(at, value);
-            from = from.saturating_add(1);
+    fn call(&mut self, base: usize, f: usize) -> Result<(), Halt> {
+        let root = self.program.root(f);
+        for (at, from) in root.names.numbers().zip(base..self.state.values.len()) {
+            let value = *self.state.value_at(from)?;
+            self.state.set(at, &value)?;
         }
-        self.values.truncate(base);
-        self.focus = Focus::Entering(root.body);
+        self.state.values.truncate(base);
+        self.state.focus = Focus::Entering(root.body);
+        Ok(())
     }
 
     // The value of a right side goes to the pattern's names, whole or part by part.
-    pub(super) fn bind(&mut self, program: &Program, names: Range, value: Value) {
-        if count(names) == 1 {
-            self.set(entry_of(program, names.first), value);
-            return;
+    pub(super) fn bind(&mut self, names: Range, value: &Value) -> Result<(), Halt> {
+        if names.len() == 1 {
+            return self.state.set(entry_of(self.program, names.first), value);
         }
         let mut first = 1usize;
-        for at in names.first..names.end {
+        for at in names.numbers() {
             let end = value.end(first);
-            self.set(entry_of(program, at), value.part(first, end));
+            self.state
+                .set(entry_of(self.program, at), &value.part(first, end))?;
             first = end;
         }
+        Ok(())
     }
 
     // A handle is prepared for each name, in order.
-    pub(super) fn prepare<M: Machine>(
-        &mut self,
-        names: Range,
-        machine: &mut M,
-    ) -> Result<(), Refusal> {
-        for at in names.first..names.end {
-            let handle = machine.prepare()?;
-            self.set(at, Value::of(Leaf::Handle(handle)));
+    pub(super) fn prepare(&mut self, names: Range) -> Result<(), Halt> {
+        for at in names.numbers() {
+            let handle = self.machine.prepare()?;
+            self.state.set(at, &Value::from(Leaf::Handle(handle)))?;
         }
         Ok(())
     }

@@ -1,171 +1,108 @@
 // One step of a run.
 ghost use Rattle.std.specs.Prelude.{◌<◌, IfSome};
 
-use super::{Focus, Frame, State};
+use super::{Focus, Frame, Halt, Stepper, push_within_capacity};
 use crate::value::Value;
 use grammar::tree::Range;
 use machine::machine::Machine;
-use machine::order::Refusal;
 use rules::program::{Act, Node, Program};
 
-// The part of a node that runs first: its place in the table of parts, and its node.
+// The part of a node that runs first: its place in the table of parts, if it stands there, and its node.
 #[derive(Clone, Copy)]
 struct Inner {
-    part: usize,
+    part: Option<usize>,
     node: usize,
-}
-
-// A part that stands before the node `at`.
-fn before(at: usize, part: usize, node: usize) -> Option<Inner>
-    ensures { IfSome result (λ i. i.node < at) }
-{
-    if node < at {
-        Some(Inner { part, node })
-    } else {
-        None
-    }
 }
 
 // The part of the node at `at` that runs first, if it has one.
 fn inner_of(program: &Program, at: usize) -> Option<Inner>
     ensures { IfSome result (λ i. i.node < at) }
 {
-    match program.node(at) {
-        Node::Built { act: _, parts } => {
-            if parts.end <= parts.first {
-                return None;
-            }
-            let part = parts.end - 1;
-            before(at, part, program.part(part))
+    let (part, node) = match program.node(at) {
+        Node::Built { parts, .. } => {
+            let part = parts.numbers().next_back()?;
+            (Some(part), program.part(part))
         }
-        Node::Bind {
-            binder: _,
-            names: _,
-            right,
-            body: _,
-        } => before(at, 0, right),
-        Node::If {
-            test,
-            yes: _,
-            other: _,
-        } => before(at, 0, test),
-        _ => None,
-    }
+        Node::Bind { right, .. } => (None, right),
+        Node::If { test, .. } => (None, test),
+        _ => return None,
+    };
+    (node < at).then_some(Inner { part, node })
 }
 
-impl State {
-    // The next step. Answers whether there was one.
-    pub fn step<M: Machine>(
-        &mut self,
-        program: &Program,
-        machine: &mut M,
-    ) -> Result<bool, Refusal> {
-        match self.focus {
-            Focus::Entering(at) => self.enter(program, at, machine),
-            Focus::Finished(value) => match self.frames.pop() {
-                Some(frame) => self.resume(program, frame, value, machine),
-                None => Ok(false),
-            },
+impl<M: Machine> Stepper<'_, M> {
+    // The next step.
+    pub(super) fn step(&mut self) -> Result<(), Halt> {
+        match self.state.focus {
+            Focus::Entering(at) => self.enter(at),
+            Focus::Finished(value) => {
+                let frame = self.state.frames.pop().ok_or(Halt::Ended)?;
+                self.resume(frame, value)
+            }
         }
     }
 
     // Goes down to the part that steps next.
-    fn enter<M: Machine>(
-        &mut self,
-        program: &Program,
-        start: usize,
-        machine: &mut M,
-    ) -> Result<bool, Refusal> {
+    fn enter(&mut self, start: usize) -> Result<(), Halt> {
         let mut at = start;
-        while let Some(inner) = inner_of(program, at) {
-            if !self.wait(at, inner.part) {
-                return Ok(false);
-            }
+        while let Some(inner) = inner_of(self.program, at) {
+            self.wait(at, inner.part)?;
             at = inner.node;
         }
-        self.leaf(program, at, machine)
+        self.leaf(at)
+    }
+
+    // The node waits for one of its parts.
+    fn wait(&mut self, node: usize, part: Option<usize>) -> Result<(), Halt> {
+        push_within_capacity(&mut self.state.frames, Frame { node, part })
     }
 
     // A term with no part that runs before it.
-    fn leaf<M: Machine>(
-        &mut self,
-        program: &Program,
-        at: usize,
-        machine: &mut M,
-    ) -> Result<bool, Refusal> {
-        match program.node(at) {
-            Node::Constant(leaf) => {
-                self.focus = Focus::Finished(Value::of(leaf));
-                Ok(true)
-            }
-            Node::Use(entry) => {
-                self.focus = Focus::Finished(self.entry(entry));
-                Ok(true)
-            }
+    fn leaf(&mut self, at: usize) -> Result<(), Halt> {
+        match self.program.node(at) {
+            Node::Constant(leaf) => self.state.focus = Focus::Finished(Value::from(leaf)),
+            Node::Use(entry) => self.state.focus = Focus::Finished(*self.state.entry(entry)?),
             Node::Using { names, body } => {
-                self.prepare(names, machine)?;
-                self.focus = Focus::Entering(body);
-                Ok(true)
+                self.prepare(names)?;
+                self.state.focus = Focus::Entering(body);
             }
-            Node::Built { act, parts } => self.act(program, act, parts, machine),
-            _ => Ok(false),
+            Node::Built { act, parts } => self.act(act, parts)?,
+            _ => return Err(Halt::Stuck),
         }
+        Ok(())
     }
 
     // A part has become a value: the node that waited for it goes on.
-    fn resume<M: Machine>(
-        &mut self,
-        program: &Program,
-        frame: Frame,
-        value: Value,
-        machine: &mut M,
-    ) -> Result<bool, Refusal> {
-        match program.node(frame.node) {
-            Node::Built { act, parts } => self.resume_built(
-                program, frame, act, parts, value, machine,
-            ),
-            Node::Bind {
-                binder: _,
-                names,
-                right: _,
-                body,
-            } => {
-                self.bind(program, names, value);
-                self.focus = Focus::Entering(body);
-                Ok(true)
+    fn resume(&mut self, frame: Frame, value: Value) -> Result<(), Halt> {
+        match self.program.node(frame.node) {
+            Node::Built { act, parts } => self.resume_built(frame, act, parts, value)?,
+            Node::Bind { names, body, .. } => {
+                self.bind(names, &value)?;
+                self.state.focus = Focus::Entering(body);
             }
-            Node::If {
-                test: _,
-                yes,
-                other,
-            } => {
-                self.focus = Focus::Entering(if value.is_one() { yes } else { other });
-                Ok(true)
+            Node::If { yes, other, .. } => {
+                self.state.focus = Focus::Entering(if value.is_one() { yes } else { other });
             }
-            _ => Ok(false),
+            _ => return Err(Halt::Stuck),
         }
+        Ok(())
     }
 
     // The next part runs, or, after the last, the construct itself.
-    fn resume_built<M: Machine>(
+    fn resume_built(
         &mut self,
-        program: &Program,
         frame: Frame,
         act: Act,
         parts: Range,
         value: Value,
-        machine: &mut M,
-    ) -> Result<bool, Refusal> {
-        if !self.keep(value) {
-            return Ok(false);
+    ) -> Result<(), Halt> {
+        push_within_capacity(&mut self.state.values, value)?;
+        let part = frame.part.ok_or(Halt::Stuck)?;
+        if part <= parts.first {
+            return self.act(act, parts);
         }
-        if frame.part <= parts.first {
-            return self.act(program, act, parts, machine);
-        }
-        let part = frame.part - 1;
-        if !self.wait(frame.node, part) {
-            return Ok(false);
-        }
-        self.enter(program, program.part(part), machine)
+        let next = part - 1;
+        self.wait(frame.node, Some(next))?;
+        self.enter(self.program.part(next))
     }
 }

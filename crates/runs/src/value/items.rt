@@ -1,11 +1,40 @@
 // The items of a value.
-ghost use Rattle.std.specs.Prelude.{◌≡◌, ◌+◌, ◌-◌, ◌<◌, ◌≤◌, [], ◌∷◌, ◌++◌, drop, slice_index_or, slice_range};
+ghost use Rattle.std.specs.Prelude.{◌≡◌, ◌+◌, ◌-◌, ◌<◌, ◌≤◌, [], ◌∷◌, ◌++◌, length, drop, slice_index_or, slice_range};
 ghost use Rattle.runs.specs.Items.{roomy, passed, handle_in, one_in, unit_item, Inner};
 ghost use Rattle.runs.specs.Values.{held};
 ghost use Rattle.runs.specs.declared.value.Item.TheVariants.{Leaf};
 
 use super::{ITEMS, Item, Value};
 use rules::program::Leaf as ProgramLeaf;
+
+// How many items the first value takes.
+fn first_span(items: &[Item]) -> usize
+    requires { length items.now ≤ 15 }
+    ensures span { result ≡ passed 1 items.now }
+    ensures within { result ≤ length items.now }
+{
+    let mut left = 1usize;
+    for (count, item) in items.iter().enumerate() {
+        if left == 0 {
+            return count;
+        }
+        if let Item::Tuple(parts) = item {
+            left += usize::from(*parts);
+        }
+        left -= 1;
+    }
+    items.len()
+}
+
+impl From<ProgramLeaf> for Value {
+    ghost from_gives = { λ leaf value. held value ≡ Leaf leaf ∷ [] };
+
+    fn from(leaf: ProgramLeaf) -> Value {
+        let mut value = Value::empty();
+        value.push(Item::Leaf(leaf));
+        value
+    }
+}
 
 impl Value {
     // A value with no item yet.
@@ -18,24 +47,23 @@ impl Value {
         }
     }
 
-    pub fn of(leaf: ProgramLeaf) -> Value
-        ensures { held result ≡ Leaf leaf ∷ [] }
+    // The items that it holds.
+    fn as_slice(&self) -> &[Item]
+        ensures items { result.now ≡ held self.now }
+        ensures few { length result.now ≤ 15 }
     {
-        let mut value = Value::empty();
-        value.push(Item::Leaf(leaf));
-        value
+        &self.items[..self.count]
     }
 
-    // The item at `at`, or the leaf unit where there is none.
+    // The item at `at`, or the leaf unit where there is none. No `Option`: a value is asked only for items that it holds.
     pub fn item(&self, at: usize) -> Item
         ensures item { result ≡ slice_index_or (held self.now) at unit_item }
         ensures inner { Inner at self.now.count result }
     {
-        if at < self.count {
-            self.items[at]
-        } else {
-            Item::Leaf(ProgramLeaf::Unit)
-        }
+        self.as_slice()
+            .get(at)
+            .copied()
+            .unwrap_or(Item::Leaf(ProgramLeaf::Unit))
     }
 
     // One more item, where there is room.
@@ -48,40 +76,37 @@ impl Value {
         }
     }
 
+    // These items follow, as far as there is room.
+    fn push_all(&mut self, items: &[Item])
+        ensures { held self.new ≡ roomy (held self.old ++ items.now) }
+    {
+        for item in items {
+            self.push(*item);
+        }
+    }
+
     // The items of another value follow, as far as there is room.
     pub fn append(&mut self, other: &Value)
         ensures { held self.new ≡ roomy (held self.old ++ held other.now) }
     {
-        for at in 0..other.count {
-            self.push(other.item(at));
-        }
+        self.push_all(other.as_slice());
     }
 
     // Where the part that begins at `at` ends.
     pub fn end(&self, at: usize) -> usize
         ensures { result ≡ at + passed 1 (drop at (held self.now)) }
     {
-        let mut end = at;
-        let mut left = 1usize;
-        while left > 0 && end < self.count {
-            if let Item::Tuple(parts) = self.item(end) {
-                left += parts as usize;
-            }
-            left -= 1;
-            end += 1;
-        }
-        end
+        at + first_span(self.as_slice().get(at..).unwrap_or(&[]))
     }
 
     // The items from `first` on, before `end`.
     pub fn part(&self, first: usize, end: usize) -> Value
         ensures { held result ≡ slice_range (held self.now) first end }
     {
+        let items = self.as_slice();
+        let items = &items[..end.min(items.len())];
         let mut part = Value::empty();
-        let stop = end.min(self.count).max(first);
-        for at in first..stop {
-            part.push(self.item(at));
-        }
+        part.push_all(&items[first.min(items.len())..]);
         part
     }
 
@@ -90,11 +115,8 @@ impl Value {
         ensures { result ≡ handle_in (slice_index_or (held self.now) 0 unit_item) }
     {
         match self.item(0) {
-            Item::Leaf(leaf) => match leaf {
-                ProgramLeaf::Handle(handle) => Some(handle),
-                _ => None,
-            },
-            Item::Tuple(_) => None,
+            Item::Leaf(ProgramLeaf::Handle(handle)) => Some(handle),
+            _ => None,
         }
     }
 
@@ -103,11 +125,8 @@ impl Value {
         ensures { result ≡ one_in (slice_index_or (held self.now) 0 unit_item) }
     {
         match self.item(0) {
-            Item::Leaf(leaf) => match leaf {
-                ProgramLeaf::Bit(bit) => bit,
-                _ => false,
-            },
-            Item::Tuple(_) => false,
+            Item::Leaf(ProgramLeaf::Bit(bit)) => bit,
+            _ => false,
         }
     }
 }

@@ -1,4 +1,4 @@
-use Rattle.runs.proofs.state.State.enter.Given as goal
+use Rattle.runs.proofs.state.Stepper.enter.Given as goal
 
 abbrev pub decreases-loop-inner : goal.decreases-loop-inner
 decreases-loop-inner g l = l.at
