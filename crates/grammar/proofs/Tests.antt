@@ -1,13 +1,15 @@
 -- The words at hand: what the kind of a word says.
 use Rattle.std.proofs.Common.{rules, ◌≡◌, Bool, eqb, true, false, List, [], ◌∷◌, Some, None, refl, ap, ◌∙◌}
-use Rattle.words.proofs.KindNumbers.{numbers_decide_lem}
-use Rattle.words.specs.Kinds.{kind_number}
+use Rattle.words.specs.Kinds.{kind_number, NumbersDecide}
 use Rattle.words.specs.declared.token.Kind.{Kind}
 use Rattle.words.specs.declared.token.Kind.TheVariants.{Open, Close, LeftBrace, RightBrace, Comma, Equals, Colon, Op, Run, Let, Mut, Set, Using, In, If, Then, Else, Meas, Unit, Bit, Int, Qbit, Zero, One}
 use Rattle.words.specs.declared.token.Word.{Word}
 use Rattle.words.specs.declared.token.Word.TheVariants.{Name, Number, Gate, Fixed}
 use Rattle.syntax.specs.Machine.{index, same, heads}
 use Rattle.grammar.specs.Parsing.{kind_of}
+
+numbers_decide : NumbersDecide
+numbers_decide j k = search rules
 
 number : (k : Kind) → kind_number k ≡ index k
 number Open = refl
@@ -40,7 +42,7 @@ not_true true h = absurd (h refl)
 not_true false h = refl
 
 other_kind : (j k : Kind) → (j ≡ k → ⊥) → same j k ≡ false
-other_kind j k h = not_true (same j k) (λ e. h ((numbers_decide_lem j k).0 (ap (λ n. eqb n (kind_number k)) (number j) ∙ ap (eqb (index j)) (number k) ∙ e)))
+other_kind j k h = not_true (same j k) (λ e. h ((numbers_decide j k).0 (ap (λ n. eqb n (kind_number k)) (number j) ∙ ap (eqb (index j)) (number k) ∙ e)))
 
 -- the words begin with that kind
 pub headed : (k : Kind) (ws : List Word) → Some k ≡ kind_of ws → heads k ws ≡ true
