@@ -1,7 +1,7 @@
 // The report of an ended run.
 use grammar::tree::Range;
-use rules::program::{Leaf, Program};
-use rules::types::Type;
+use programs::program::{Leaf, Program};
+use programs::types::Type;
 use runs::run::Run;
 use runs::value::{Item, Value};
 use texts::text::Text;

@@ -2,7 +2,7 @@
 
 // The need of a program: the steps and the peak of its run term.
 use grammar::tree::Range;
-use rules::program::{Act, Node, Program};
+use programs::program::{Act, Node, Program};
 use std::alloc::{AllocError, AllocFailed, Global};
 
 // The most steps of a listing.
@@ -121,7 +121,7 @@ impl Costs {
     }
 
     fn node_cost(&self, program: &Program, at: usize) -> Cost {
-        match program.node(at) {
+        match program.term(at) {
             Node::Place(_) | Node::Target(_) => FREE,
             Node::Constant(_) | Node::Use(_) => STEP,
             Node::Built { act, parts } => self.built(program, act, parts),

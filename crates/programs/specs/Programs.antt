@@ -1,11 +1,14 @@
 -- The tables of a program, and how they grow.
-use Rattle.std.specs.Prelude.{◌≡◌, ℕ, ◌≤◌, false, List, [], ◌∷◌, ◌++◌, length, Ok, Err, vec_items, vec_capacity, Vec, Result}
+use Rattle.std.specs.Prelude.{◌≡◌, ℕ, ◌≤◌, false, List, [], ◌∷◌, ◌++◌, length, get_or, set, Ok, Err, vec_items, vec_capacity, Vec, Result}
 use Rattle.std.specs.declared.alloc.AllocError.{AllocError}
 use Rattle.std.specs.declared.alloc.Global.{Global}
 use Rattle.programs.specs.declared.program.Node.TheVariants.{Place}
 use Rattle.programs.specs.declared.program.Placed.{Placed}
 use Rattle.programs.specs.declared.program.Root.{Root}
+use Rattle.programs.specs.declared.program.Node.{Node}
 use Rattle.programs.specs.declared.program.Program.{Program}
+use Rattle.programs.specs.declared.types.Type.TheVariants as type
+use Rattle.programs.specs.declared.types.Typed.{Typed}
 
 abbrev pub nodes_of : Program → List Placed
 nodes_of p = vec_items p.nodes
@@ -18,7 +21,7 @@ roots_of p = vec_items p.roots
 
 -- what a look past the end gives
 abbrev pub no_node : Placed
-no_node = record { place = 0; node = Place false }
+no_node = record { place = 0; node = Place false; typed = record { shape = type.Unit; leaves = 1; qbits = 0 } }
 
 abbrev pub no_root : Root
 no_root = record { body = 0; names = record { first = 0; end = 0 } }
@@ -55,6 +58,15 @@ abbrev pub NodeAdded : Placed → Program → Program → Result ℕ AllocError 
 NodeAdded n p q (Ok i) = Grown (n ∷ []) [] [] p q × (i ≡ length (nodes_of p))
 NodeAdded n p q (Err e) = (q ≡ p) × (vec_capacity p.nodes ≤ length (nodes_of p))
 
+-- the node at that place, where there is one, is that and has that type; its place and all else stay
+pub record NodePut (at : ℕ) (n : Node) (t : Typed) (p q : Program) : Type 0 where
+  pub nodes : nodes_of q ≡ set (nodes_of p) at (record { place = (get_or (nodes_of p) at no_node).place; node = n; typed = t })
+  pub parts : q.parts ≡ p.parts
+  pub roots : q.roots ≡ p.roots
+  pub room : vec_capacity q.nodes ≡ vec_capacity p.nodes
+  pub run : q.run ≡ p.run
+  pub run_place : q.run_place ≡ p.run_place
+
 abbrev pub PartAdded : ℕ → Program → Program → Result (Unit {0}) AllocError → Type 0
 PartAdded i p q (Ok _) = Grown [] (i ∷ []) [] p q
 PartAdded i p q (Err e) = (q ≡ p) × (vec_capacity p.parts ≤ length (parts_of p))
@@ -62,6 +74,14 @@ PartAdded i p q (Err e) = (q ≡ p) × (vec_capacity p.parts ≤ length (parts_o
 abbrev pub RootAdded : Root → Program → Program → Result (Unit {0}) AllocError → Type 0
 RootAdded r p q (Ok _) = Grown [] [] (r ∷ []) p q
 RootAdded r p q (Err e) = (q ≡ p) × (vec_capacity p.roots ≤ length (roots_of p))
+
+-- the table of parts is that, and all else stays
+pub record PartsSet (ps : Vec ℕ Global) (p q : Program) : Type 0 where
+  pub parts : q.parts ≡ ps
+  pub nodes : q.nodes ≡ p.nodes
+  pub roots : q.roots ≡ p.roots
+  pub run : q.run ≡ p.run
+  pub run_place : q.run_place ≡ p.run_place
 
 -- the term to run and its place are set, and the tables stay
 pub record NamedRun (run place : ℕ) (p q : Program) : Type 0 where

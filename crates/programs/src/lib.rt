@@ -1,3 +1,4 @@
 #![tactic(auto)]
 
 pub mod program;
+pub mod types;

@@ -1,7 +1,9 @@
 // A checked listing as a run executes it: an arena of nodes, the parts of a construct before it, names resolved to entries.
-ghost use Rattle.std.specs.Prelude.{◌≡◌, length, get_or, IfOk, slice_index, slice_index_or};
-ghost use Rattle.programs.specs.Programs.{nodes_of, parts_of, roots_of, no_node, no_root, Fresh, EntryAdded, NodeAdded, PartAdded, RootAdded, NamedRun};
+ghost use Rattle.std.specs.Prelude.{◌≡◌, true, length, get_or, IfOk, slice_index, slice_index_or};
+ghost use Rattle.programs.specs.Programs.{nodes_of, parts_of, roots_of, no_node, no_root, Fresh, EntryAdded, NodeAdded, NodePut, PartAdded, PartsSet, RootAdded, NamedRun};
+ghost use Rattle.programs.specs.Nodes.{Falls};
 
+use crate::types::{Typed, UNIT};
 use grammar::tree::{Binder, Range};
 use machine::order::Gate;
 use std::alloc::{AllocError, Global};
@@ -56,11 +58,12 @@ pub enum Node {
     },
 }
 
-// A node with the place of its first word.
+// A node with the place of its first word and its type.
 #[derive(Clone, Copy)]
 pub struct Placed {
     pub place: usize,
     pub node: Node,
+    pub typed: Typed,
 }
 
 // An operation: the node of its body, and the entries of its parameters.
@@ -71,12 +74,13 @@ pub struct Root {
 }
 
 // What a look past the end gives.
-pub const NO_NODE: Placed = Placed {
+const NO_NODE: Placed = Placed {
     place: 0,
     node: Node::Place(false),
+    typed: UNIT,
 };
 
-pub const NO_ROOT: Root = Root {
+const NO_ROOT: Root = Root {
     body: 0,
     names: Range { first: 0, end: 0 },
 };
@@ -125,6 +129,29 @@ impl Program {
         self.nodes.get(at).copied().unwrap_or(NO_NODE).node
     }
 
+    // The node at `at`, or no term where a term that it names by its node does not stand before it.
+    pub fn term(&self, at: usize) -> Node
+        ensures falls { Falls at result }
+        ensures found { Falls at (get_or (nodes_of self.now) at no_node).node → result ≡ (get_or (nodes_of self.now) at no_node).node }
+    {
+        let node = self.node(at);
+        if falls(at, node) { node } else { NO_NODE.node }
+    }
+
+    // The type of the node at `at`.
+    pub fn typed(&self, at: usize) -> Typed
+        ensures { result ≡ (get_or (nodes_of self.now) at no_node).typed }
+    {
+        self.nodes.get(at).copied().unwrap_or(NO_NODE).typed
+    }
+
+    // The nodes.
+    pub fn nodes(&self) -> &[Placed]
+        ensures { result.now ≡ nodes_of self.now }
+    {
+        self.nodes.as_slice()
+    }
+
     // The place of the first word of the node at `at`.
     pub fn place(&self, at: usize) -> usize
         ensures { result ≡ (get_or (nodes_of self.now) at no_node).place }
@@ -161,10 +188,20 @@ impl Program {
     }
 
     // Adds a node, and answers its number.
-    pub fn add_node(&mut self, place: usize, node: Node) -> Result<usize, AllocError>
-        ensures { NodeAdded (record { place = place; node = node }) self.old self.new result }
+    pub fn add_node(&mut self, placed: Placed) -> Result<usize, AllocError>
+        ensures { NodeAdded placed self.old self.new result }
     {
-        add(&mut self.nodes, Placed { place, node })
+        add(&mut self.nodes, placed)
+    }
+
+    // The node at `at`, where there is one, becomes this and has this type.
+    pub fn put(&mut self, at: usize, node: Node, typed: Typed)
+        ensures { NodePut at node typed self.old self.new }
+    {
+        if at < self.nodes.len() {
+            let place = self.nodes[at].place;
+            self.nodes[at] = Placed { place, node, typed };
+        }
     }
 
     // Adds an entry to the table of parts.
@@ -173,6 +210,13 @@ impl Program {
     {
         add(&mut self.parts, part)?;
         Ok(())
+    }
+
+    // The table of parts is this.
+    pub fn set_parts(&mut self, parts: Vec<usize>)
+        ensures { PartsSet parts self.old self.new }
+    {
+        self.parts = parts;
     }
 
     // Adds an operation.
@@ -189,6 +233,19 @@ impl Program {
     {
         self.run = run;
         self.run_place = run_place;
+    }
+}
+
+// Do the terms that a node names by their nodes stand before it?
+fn falls(at: usize, node: Node) -> bool
+    ensures falls { result ≡ true → Falls at node }
+    ensures exact { Falls at node → result ≡ true }
+{
+    match node {
+        Node::Bind { right, body, .. } => right < at && body < at,
+        Node::Using { body, .. } => body < at,
+        Node::If { test, yes, other } => test < at && yes < at && other < at,
+        _ => true,
     }
 }
 

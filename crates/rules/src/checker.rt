@@ -2,10 +2,11 @@
 ghost use Rattle.rules.specs.declared.checker.Binding.{Binding};
 
 use crate::fault::RuleFault;
-use crate::program::{Entry, Node, Program, Root};
 use crate::search::{Named, find, text_of};
-use crate::types::{Typed, Types, within};
+use crate::types::{Types, within};
 use grammar::tree::{Name, Range, Tree};
+use programs::program::Program;
+use programs::types::Typed;
 use std::alloc::{AllocError, Global};
 
 mod listing;
@@ -37,9 +38,8 @@ impl Named for Binding {
 
 #[derive(Drop)]
 pub struct Checker {
-    // an entry of the program for each node
-    entries: Vec<Entry>,
-    roots: Vec<Root>,
+    // a node for each node of the tree, as far as they were checked
+    program: Program,
     // the names in scope, the innermost last
     scope: Vec<Binding>,
     // the places in the scope of the names that were spent, in order
@@ -54,21 +54,12 @@ impl Checker {
     // A checker with room for a tree of up to `size` nodes.
     pub fn room(heap: Global, size: usize) -> Result<Checker, AllocError> {
         Ok(Checker {
-            entries: Vec::with_capacity(heap, size)?,
-            roots: Vec::with_capacity(heap, size)?,
+            program: Program::room(heap, size)?,
             scope: Vec::with_capacity(heap, size)?,
             trail: Vec::with_capacity(heap, size)?,
             floor: 0,
             above: 0,
         })
-    }
-
-    // The node at `at` is this, and has this type.
-    fn put(&mut self, at: usize, node: Node, typed: Typed) {
-        if let Some(entry) = self.entries.get_mut(at) {
-            entry.placed.node = node;
-            entry.typed = typed;
-        }
     }
 }
 
@@ -84,7 +75,7 @@ impl<'a> Walk<'a> {
     // The types of the nodes, as far as they were checked.
     fn types(&self) -> Types<'_> {
         Types {
-            entries: self.checker.entries.as_slice(),
+            nodes: self.checker.program.nodes(),
             parts: self.tree.parts(),
         }
     }
@@ -93,7 +84,7 @@ impl<'a> Walk<'a> {
         self.types().at(at)
     }
 
-    // The entries of the parts in a range, in reverse order.
+    // The nodes of the parts in a range, in reverse order.
     fn parts_of(&self, range: Range) -> &'a [usize] {
         within(self.tree.parts(), range)
     }
@@ -122,14 +113,8 @@ fn walked<'a>(text: &'a [u8], tree: &'a Tree, checker: Checker) -> Result<Checke
 
 // The program of a listing that follows the rules.
 pub fn check(text: &[u8], tree: Tree, checker: Checker) -> Result<Program, RuleFault> {
-    let Checker { entries, roots, .. } = walked(text, &tree, checker)?;
-    let run = tree.run_term();
-    let run_place = tree.run_place();
-    Ok(Program {
-        entries,
-        parts: tree.into_parts(),
-        roots,
-        run,
-        run_place,
-    })
+    let Checker { mut program, .. } = walked(text, &tree, checker)?;
+    program.name_run(tree.run_term(), tree.run_place());
+    program.set_parts(tree.into_parts());
+    Ok(program)
 }

@@ -2,6 +2,5 @@
 
 pub mod checker;
 pub mod fault;
-pub mod program;
 pub mod search;
 pub mod types;

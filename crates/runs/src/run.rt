@@ -4,7 +4,7 @@ use crate::value::Value;
 use machine::machine::Machine;
 use machine::order::Refusal;
 use need::Need;
-use rules::program::Program;
+use programs::program::Program;
 
 #[derive(Drop)]
 pub struct Run {

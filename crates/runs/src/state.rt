@@ -5,7 +5,7 @@ ghost use Rattle.runs.specs.declared.state.Halt.TheVariants.{Refused};
 use crate::value::Value;
 use machine::machine::Machine;
 use machine::order::Refusal;
-use rules::program::Program;
+use programs::program::Program;
 use std::alloc::{AllocError, Global};
 
 mod acts;

@@ -1,7 +1,7 @@
 // Values of a run, kept in place: a leaf, or a tuple followed by its parts.
 ghost use Rattle.std.specs.Prelude.{◌≡◌, ◌≤◌, length};
 
-use rules::program::Leaf;
+use programs::program::Leaf;
 
 mod items;
 

@@ -1,21 +1,18 @@
 // The walk over a listing: its operations from the top, then the term to run.
 use super::Walk;
 use crate::fault::RuleFault;
-use crate::program::{Entry, Node, Root};
-use crate::types::{UNIT, within};
+use crate::types::within;
 use grammar::tree::{Operation, Parameter, QBIT};
-use programs::program::Placed;
+use programs::program::{Node, Placed, Root};
+use programs::types::UNIT;
 
 impl<'a> Walk<'a> {
-    // An entry for each node.
+    // A node of the program for each node of the tree.
     fn fill(&mut self) -> Result<(), RuleFault> {
         for node in self.tree.nodes() {
-            let placed = Placed {
+            self.checker.program.add_node(Placed {
                 place: node.place,
                 node: Node::Place(false),
-            };
-            self.checker.entries.push(Entry {
-                placed,
                 typed: UNIT,
             })?;
         }
@@ -70,7 +67,7 @@ impl<'a> Walk<'a> {
         if !self.types().same(body, result) {
             return Err(RuleFault::Misfit { place });
         }
-        self.checker.roots.push(Root { body, names })?;
+        self.checker.program.add_root(Root { body, names })?;
         Ok(())
     }
 

@@ -1,10 +1,11 @@
 // The questions about names: new, in scope, unspent, and spent at the end.
 use super::{Binding, Checker, Walk};
 use crate::fault::RuleFault;
-use crate::program::Node;
 use crate::search::{Named, name_of};
-use crate::types::{QBIT, Typed, within};
+use crate::types::within;
 use grammar::tree::{self, Binder, Name, Range};
+use programs::program::Node;
+use programs::types::{QBIT, Typed};
 
 impl Walk<'_> {
     // The name of a node of a pattern.
@@ -56,7 +57,9 @@ impl Walk<'_> {
                 return Err(RuleFault::Fixed { place });
             }
             let typed = self.type_at(binding.entry);
-            self.checker.put(at, Node::Target(binding.entry), typed);
+            self.checker
+                .program
+                .put(at, Node::Target(binding.entry), typed);
         }
         Ok(())
     }
@@ -72,7 +75,9 @@ impl Walk<'_> {
             }
             self.checker.spend(at, place)?;
         }
-        self.checker.put(node, Node::Use(binding.entry), typed);
+        self.checker
+            .program
+            .put(node, Node::Use(binding.entry), typed);
         Ok(())
     }
 
@@ -84,7 +89,9 @@ impl Walk<'_> {
         typed: Typed,
         settable: bool,
     ) -> Result<(), RuleFault> {
-        self.checker.put(entry, Node::Place(settable), typed);
+        self.checker
+            .program
+            .put(entry, Node::Place(settable), typed);
         self.checker.scope.push(Binding {
             name,
             entry,
@@ -157,8 +164,8 @@ impl Walk<'_> {
 
     // Has a part of a right side the type of the name that it sets?
     fn fits_target(&self, at: usize, part: usize) -> bool {
-        match self.checker.entries.get(at).map(|entry| entry.placed.node) {
-            Some(Node::Target(entry)) => self.types().same(part, entry),
+        match self.checker.program.node(at) {
+            Node::Target(entry) => self.types().same(part, entry),
             _ => false,
         }
     }

@@ -3,9 +3,10 @@ ghost use Rattle.std.specs.Prelude.{◌<◌};
 
 use super::Walk;
 use crate::fault::RuleFault;
-use crate::program::{Act, Leaf, Node};
-use crate::types::{BIT, INT, LEAVES, PAIR, QBIT, Type, Typed, UNIT};
+use crate::types::LEAVES;
 use grammar::tree::{Binder, Constant, Construct, Form, Name, Operation, Range};
+use programs::program::{Act, Leaf, Node};
+use programs::types::{BIT, INT, PAIR, QBIT, Type, Typed, UNIT};
 
 impl Walk<'_> {
     // The type of a tuple of the parts in a range: at most 8 leaves.
@@ -42,7 +43,7 @@ impl Walk<'_> {
             }
             _ => return Ok(()),
         };
-        self.checker.put(at, Node::Place(false), typed);
+        self.checker.program.put(at, Node::Place(false), typed);
         Ok(())
     }
 
@@ -78,7 +79,7 @@ impl Walk<'_> {
             Constant::One => (Leaf::Bit(true), BIT),
             Constant::Number(n) => (Leaf::Int(n), INT),
         };
-        self.checker.put(at, Node::Constant(leaf), typed);
+        self.checker.program.put(at, Node::Constant(leaf), typed);
     }
 
     // The parts of a construct, from left to right.
@@ -97,7 +98,9 @@ impl Walk<'_> {
         let act = self.act(form)?;
         self.parts(at, parts)?;
         let typed = self.built_type(at, act, parts)?;
-        self.checker.put(at, Node::Built { act, parts }, typed);
+        self.checker
+            .program
+            .put(at, Node::Built { act, parts }, typed);
         Ok(())
     }
 
@@ -199,7 +202,7 @@ impl Walk<'_> {
             body,
         };
         let typed = self.type_at(body);
-        self.checker.put(at, node, typed);
+        self.checker.program.put(at, node, typed);
         Ok(())
     }
 
@@ -225,7 +228,9 @@ impl Walk<'_> {
         self.term(body)?;
         self.close(start)?;
         let typed = self.type_at(body);
-        self.checker.put(at, Node::Using { names, body }, typed);
+        self.checker
+            .program
+            .put(at, Node::Using { names, body }, typed);
         Ok(())
     }
 
@@ -254,7 +259,9 @@ impl Walk<'_> {
         }
         self.checker.trail.truncate(middle);
         let typed = self.type_at(yes);
-        self.checker.put(at, Node::If { test, yes, other }, typed);
+        self.checker
+            .program
+            .put(at, Node::If { test, yes, other }, typed);
         Ok(())
     }
 }

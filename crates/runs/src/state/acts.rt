@@ -4,11 +4,11 @@ use crate::value::{ITEMS, Item, Value};
 use grammar::tree::Range;
 use machine::machine::Machine;
 use machine::order::Gate;
-use rules::program::{Act, Leaf, Node, Program};
+use programs::program::{Act, Leaf, Node, Program};
 
 // The entry that a name of a pattern means: a new name's own, or the one that a set alters.
 fn entry_of(program: &Program, at: usize) -> usize {
-    match program.node(at) {
+    match program.term(at) {
         Node::Target(entry) => entry,
         _ => at,
     }

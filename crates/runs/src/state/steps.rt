@@ -5,7 +5,7 @@ use super::{Focus, Frame, Halt, Stepper, push_within_capacity};
 use crate::value::Value;
 use grammar::tree::Range;
 use machine::machine::Machine;
-use rules::program::{Act, Node, Program};
+use programs::program::{Act, Node, Program};
 
 // The part of a node that runs first: its place in the table of parts, if it stands there, and its node.
 #[derive(Clone, Copy)]
@@ -18,7 +18,7 @@ struct Inner {
 fn inner_of(program: &Program, at: usize) -> Option<Inner>
     ensures { IfSome result (λ i. i.node < at) }
 {
-    let (part, node) = match program.node(at) {
+    let (part, node) = match program.term(at) {
         Node::Built { parts, .. } => {
             let part = parts.numbers().next_back()?;
             (Some(part), program.part(part))
@@ -59,7 +59,7 @@ impl<M: Machine> Stepper<'_, M> {
 
     // A term with no part that runs before it.
     fn leaf(&mut self, at: usize) -> Result<(), Halt> {
-        match self.program.node(at) {
+        match self.program.term(at) {
             Node::Constant(leaf) => self.state.focus = Focus::Finished(Value::from(leaf)),
             Node::Use(entry) => self.state.focus = Focus::Finished(*self.state.entry(entry)?),
             Node::Using { names, body } => {
@@ -74,7 +74,7 @@ impl<M: Machine> Stepper<'_, M> {
 
     // A part has become a value: the node that waited for it goes on.
     fn resume(&mut self, frame: Frame, value: Value) -> Result<(), Halt> {
-        match self.program.node(frame.node) {
+        match self.program.term(frame.node) {
             Node::Built { act, parts } => self.resume_built(frame, act, parts, value)?,
             Node::Bind { names, body, .. } => {
                 self.bind(names, &value)?;

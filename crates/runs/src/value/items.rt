@@ -5,7 +5,7 @@ ghost use Rattle.runs.specs.Values.{held};
 ghost use Rattle.runs.specs.declared.value.Item.TheVariants.{Leaf};
 
 use super::{ITEMS, Item, Value};
-use rules::program::Leaf as ProgramLeaf;
+use programs::program::Leaf as ProgramLeaf;
 
 // How many items the first value takes.
 fn first_span(items: &[Item]) -> usize
