@@ -52,7 +52,7 @@ mod tests {
         Ok(matches!(answer, Err(WordFault::Bad { place }) if place == bad))
     }
 
-    const LISTING: &'static [u8] =
+    const LISTING: &[u8] =
         b"op f(a: bit): bit { a }\nrun using q0 in let r = meas(CNOT(q0)) in (r, 65535)";
 
     const ROWS: [Row; 32] = [
@@ -91,10 +91,10 @@ mod tests {
     ];
 
     // A name may begin with a reserved word, or be one in other letters.
-    const NAMES: [&'static [u8]; 6] = [b"Run", b"ins", b"cnot", b"XX", b"a1", b"abcdefghijklmnop"];
+    const NAMES: [&[u8]; 6] = [b"Run", b"ins", b"cnot", b"XX", b"a1", b"abcdefghijklmnop"];
 
     // Listings with a bad word, and its place.
-    const BAD: [(&'static [u8], usize); 16] = [
+    const BAD: [(&[u8], usize); 16] = [
         (b"1a", 0),
         (b"0x", 0),
         (b"00", 0),
