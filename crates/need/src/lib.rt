@@ -70,9 +70,8 @@ impl Cost {
     fn either(self, other: Cost) -> Cost {
         Cost {
             steps: self.steps.max(other.steps),
-            gain: self.gain,
-            loss: self.loss,
             peak: self.peak.max(other.peak),
+            ..self
         }
     }
 }
