@@ -38,9 +38,6 @@ here_then {v = v} h k = h.1 ∙ ap (λ ws. v ∷ ws) (sym (rest_after k))
 pub is_word : {p q : Cursor} (k : Kind) → heads k (rest p) ≡ true → Passed p q → IsWord k (rest p) (rest q)
 is_word {p} k e h = let (l, x, i, d) = w.there p.words.now k p.at e in (x, i, here_then (l, d) h)
 
-pub before_end : (p : Cursor) (k : Kind) → heads k (rest p) ≡ true → p.at < length p.words.now
-before_end p k e = (w.there p.words.now k p.at e).0
-
 pub later : {x : Want} {p q : Cursor} {ys : List Want} → Way x p.words.now p.at ys (p.at + 1) → Passed p q → Way x p.words.now p.at ys q.at
 later {x} {p} {ys = ys} h k = subst (Way x p.words.now p.at ys) (sym k.at) h
 

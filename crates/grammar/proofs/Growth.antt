@@ -115,10 +115,6 @@ pub lacks : {x : Want} {p q : Cursor} {b : ℕ} {ys : List Want} {t u : Tree} (e
 lacks (stop.At j) o l h = absurd h
 lacks stop.Memory o l h = λ r. h (lacks_room o l r).nodes
 
-pub lacks_parts : {x : Want} {p q : Cursor} {b : ℕ} {ys : List Want} {t u : Tree} (e : Stop) → Path x p ys q t u b → p.at < b → Lacks u.parts e → Halts x p t e
-lacks_parts (stop.At j) o l h = absurd h
-lacks_parts stop.Memory o l h = λ r. h (lacks_room o l r).parts
-
 pub lacks_parameters : {x : Want} {p q : Cursor} {b : ℕ} {ys : List Want} {t u : Tree} (e : Stop) → Path x p ys q t u b → p.at < b → Lacks u.parameters e → Halts x p t e
 lacks_parameters (stop.At j) o l h = absurd h
 lacks_parameters stop.Memory o l h = λ r. h (lacks_room o l r).parameters

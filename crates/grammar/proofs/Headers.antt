@@ -110,10 +110,6 @@ module _ (p q : Cursor) {t u : Tree} (o : Grows t u p.at q.at) (few : Few t u p.
     operations = subst (λ w. Grew t.operations w p.at q.at) (sym d) o.operations;
   }
 
-  pub signature_fails : (x : Want) (v : Tree) (e : Stop) → q.at ≤ length p.words.now → ParametersNamed (length (parameters_of t)) u v (Err e) → Halts x p t e
-  signature_fails x v (stop.At i) l h = absurd h
-  signature_fails x v stop.Memory l h = λ r. h (omega (arith, l, few, r.nodes, o.nodes.room))
-
 pub still_parameters : {t u : Tree} {i j a b : ℕ} {ds : List s.Parameter} → Grows t u i j → ParametersAt (nodes_of t) (parts_of t) (parameters_of t) a b ds → ParametersAt (nodes_of u) (parts_of u) (parameters_of u) a b ds
 still_parameters g h = parameters_kept g.nodes.kept g.parts.kept g.parameters.kept h
 
@@ -179,9 +175,6 @@ signature_done p q t u v f e a z i j r o h k =
       (ds, h.2.1, subst₂ (λ x y. ParametersAt (nodes_of v) (parts_of v) (parameters_of v) x y ds) (sym i) (sym j) there, subst₂ (λ x y. NamesAt (nodes_of v) x y (names_of ds)) (sym r) (sym o) (b.4 (nodes_of u) (parts_of u) ds h.2.2)),
       b.3 ∙ h.3,
     )
-
-pub signature_halts : (p q : Cursor) (t u v : Tree) (f : ℕ) (e : Stop) → f ≡ length (parameters_of t) → ParametersAreRead p q t u (Ok tt) → ParametersNamed f u v (Err e) → Halts m.parameters p t e
-signature_halts p q t u v f e i h k = signature_fails p q h.0.grows h.2.3 m.parameters v e h.0.way.within (subst (λ n. ParametersNamed n u v (Err e)) i k)
 
 -- the tree with the place of run and the node of its term
 abbrev with_run : Tree → ℕ → ℕ → Tree

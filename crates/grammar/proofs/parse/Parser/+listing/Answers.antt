@@ -1,7 +1,7 @@
 use Rattle.std.proofs.Common.{sym, refl, ◌∙◌}
 use Rattle.syntax.proofs.Ways as w
 use Rattle.grammar.specs.Reading as reading
-use Rattle.grammar.proofs.Growth.{starts, reads, fails, misses, by}
+use Rattle.grammar.proofs.Growth.{starts, fails, misses, by}
 use Rattle.grammar.proofs.Headers as h
 use Rattle.grammar.proofs.Headers.{same_size}
 use Rattle.grammar.proofs.parse.Parser.+listing.Goals as goal
@@ -20,11 +20,6 @@ pub returns-in_err-expect : goal.returns-in_err-expect
 returns-in_err-expect t c =
     let p = c.args.self.now.cursor in
     (by (reading.ListingRead p _ c.args.self.now.tree.now _) c.in_err-expect.field-0.0 (misses c.in_err-expect.field-0.0 (starts p c.args.self.now.tree.now (w.no_operation p.words.now p.at p.within (sym c.if-holds.ensures))) c.in_err-expect.ensures) c.from_residual-in_err-expect.result c.from_residual-in_err-expect.ensures.1, refl)
-
-pub returns-in_err-term : goal.returns-in_err-term
-returns-in_err-term t c =
-    let p = c.args.self.now.cursor in
-    (by (reading.ListingRead p _ c.args.self.now.tree.now _) c.in_err-term.field-0.0 (fails c.in_err-term.field-0.0 (reads (starts p c.args.self.now.tree.now (w.no_operation p.words.now p.at p.within (sym c.if-holds.ensures))) c.in_ok-expect.ensures.0 c.in_ok-expect.ensures.1) c.in_err-term.ensures.0) c.from_residual-in_err-term.result c.from_residual-in_err-term.ensures.1, c.in_err-term.ensures.1)
 
 pub returns : goal.returns
 returns t c =

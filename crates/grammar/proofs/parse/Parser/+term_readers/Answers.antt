@@ -8,7 +8,7 @@ use Rattle.syntax.specs.Machine.{this}
 use Rattle.syntax.proofs.Ways as w
 use Rattle.grammar.specs.Arena as at
 use Rattle.grammar.specs.Reading as reading
-use Rattle.grammar.proofs.Growth.{starts, takes, goes, passes, reads, turns, adds, ends, fails, misses, lacks_parts, by, base_le, grows_none, quiet_all, quiet_then}
+use Rattle.grammar.proofs.Growth.{starts, takes, goes, passes, reads, turns, adds, ends, fails, misses, by, base_le, grows_none, quiet_all, quiet_then}
 use Rattle.grammar.proofs.Arenas.{within, still, still_parts, still_names}
 use Rattle.grammar.proofs.Productions as productions
 use Rattle.grammar.proofs.Exits as x
@@ -112,16 +112,6 @@ if_term-returns t c =
       c.in_ok-other.ensures.1 ∙ c.in_ok-yes.ensures.1 ∙ c.in_ok-condition.ensures.1,
     )
 
-pub gate_term-returns-in_err-expect : goal.gate_term-returns-in_err-expect
-gate_term-returns-in_err-expect t c =
-    let p = c.args.self.now.cursor in
-    (by (reading.PlainRead p _ c.args.self.now.tree.now _) c.in_err-expect.field-0.0 (misses c.in_err-expect.field-0.0 (takes p c.args.self.now.tree.now (w.word p.words.now m.plain p.at (word.Gate c.requires.begins.0 c.args.place c.args.gate) (this Open ∷ m.terms ∷ []) c.requires.begins.1.0 c.requires.begins.1.1 refl) c.advance.ensures) c.in_err-expect.ensures) c.from_residual.result c.from_residual.ensures.1, refl)
-
-pub gate_term-returns-in_err-first : goal.gate_term-returns-in_err-first
-gate_term-returns-in_err-first t c =
-    let p = c.args.self.now.cursor in
-    (by (reading.PlainRead p _ c.args.self.now.tree.now _) c.in_err-first.field-0.0 (fails c.in_err-first.field-0.0 (reads (takes p c.args.self.now.tree.now (w.word p.words.now m.plain p.at (word.Gate c.requires.begins.0 c.args.place c.args.gate) (this Open ∷ m.terms ∷ []) c.requires.begins.1.0 c.requires.begins.1.1 refl) c.advance.ensures) c.in_ok-expect.ensures.0 c.in_ok-expect.ensures.1) c.in_err-first.ensures.0) c.from_residual-in_err-first.result c.from_residual-in_err-first.ensures.1, c.in_err-first.ensures.1)
-
 pub gate_term-returns : goal.gate_term-returns
 gate_term-returns t c =
     let p = c.args.self.now.cursor in (
@@ -145,11 +135,6 @@ pub meas_term-returns-in_err-expect-2 : goal.meas_term-returns-in_err-expect-2
 meas_term-returns-in_err-expect-2 t c =
     let p = c.args.self.now.cursor in
     (by (reading.PlainRead p _ c.args.self.now.tree.now _) c.in_err-expect-2.field-0.0 (misses c.in_err-expect-2.field-0.0 (goes (reads (takes p c.args.self.now.tree.now (w.kind_word p.words.now m.plain p.at Meas (this Open ∷ m.term ∷ this Close ∷ []) c.requires.begins (λ x i. refl)) c.advance.ensures) c.in_ok-expect.ensures.0 c.in_ok-expect.ensures.1) c.in_ok-part.ensures.0.0) c.in_err-expect-2.ensures) c.from_residual-in_err-expect-2.result c.from_residual-in_err-expect-2.ensures.1, c.in_ok-part.ensures.1)
-
-pub meas_term-returns-in_err-add_part : goal.meas_term-returns-in_err-add_part
-meas_term-returns-in_err-add_part t c =
-    let p = c.args.self.now.cursor in
-    (by (reading.PlainRead p _ c.args.self.now.tree.now _) c.in_err-add_part.field-0.0 (lacks_parts c.in_err-add_part.field-0.0 (reads (goes (reads (takes p c.args.self.now.tree.now (w.kind_word p.words.now m.plain p.at Meas (this Open ∷ m.term ∷ this Close ∷ []) c.requires.begins (λ x i. refl)) c.advance.ensures) c.in_ok-expect.ensures.0 c.in_ok-expect.ensures.1) c.in_ok-part.ensures.0.0) c.in_ok-expect-2.ensures.0 c.in_ok-expect-2.ensures.1) (omega arith) c.in_err-add_part.ensures) c.from_residual-in_err-add_part.result c.from_residual-in_err-add_part.ensures.1, c.in_ok-part.ensures.1)
 
 pub meas_term-returns : goal.meas_term-returns
 meas_term-returns t c =
@@ -223,11 +208,6 @@ parenthesis-returns-in_err-first t c =
     let p = c.args.self.now.cursor in
     (by (reading.PlainRead p _ c.args.self.now.tree.now _) c.in_err-first.field-0.0 (fails c.in_err-first.field-0.0 (passes (m.terms ∷ []) (goes (turns (m.term ∷ m.in_parens ∷ []) (takes p c.args.self.now.tree.now (w.kind_word p.words.now m.plain p.at Open (m.after_open ∷ []) c.requires.begins (λ x i. refl)) c.advance.ensures) (w.some_parts c.advance.new.self.words.now c.advance.new.self.at c.advance.new.self.within (sym c.if-holds.ensures))) c.in_ok-inner.ensures.0.0) (w.kind_word c.term.new.self.cursor.words.now m.in_parens c.term.new.self.cursor.at Comma (m.terms ∷ []) (sym c.if-not-holds.ensures) (λ x i. refl)) c.advance-2.ensures) c.in_err-first.ensures.0) c.from_residual-in_err-first.result c.from_residual-in_err-first.ensures.1, c.in_err-first.ensures.1 ∙ c.in_ok-inner.ensures.1)
 
-pub parenthesis-returns-in_err-add_part : goal.parenthesis-returns-in_err-add_part
-parenthesis-returns-in_err-add_part t c =
-    let p = c.args.self.now.cursor in
-    (by (reading.PlainRead p _ c.args.self.now.tree.now _) c.in_err-add_part.field-0.0 (lacks_parts c.in_err-add_part.field-0.0 (goes (passes (m.terms ∷ []) (goes (turns (m.term ∷ m.in_parens ∷ []) (takes p c.args.self.now.tree.now (w.kind_word p.words.now m.plain p.at Open (m.after_open ∷ []) c.requires.begins (λ x i. refl)) c.advance.ensures) (w.some_parts c.advance.new.self.words.now c.advance.new.self.at c.advance.new.self.within (sym c.if-holds.ensures))) c.in_ok-inner.ensures.0.0) (w.kind_word c.term.new.self.cursor.words.now m.in_parens c.term.new.self.cursor.at Comma (m.terms ∷ []) (sym c.if-not-holds.ensures) (λ x i. refl)) c.advance-2.ensures) c.in_ok-first.ensures.0.0) (omega arith) c.in_err-add_part.ensures) c.from_residual-in_err-add_part.result c.from_residual-in_err-add_part.ensures.1, c.in_ok-first.ensures.1 ∙ c.in_ok-inner.ensures.1)
-
 pub parenthesis-returns : goal.parenthesis-returns
 parenthesis-returns t c =
     let p = c.args.self.now.cursor in (
@@ -248,11 +228,6 @@ pub terms-returns-in_err-first : goal.terms-returns-in_err-first
 terms-returns-in_err-first t c =
     let p = c.args.self.now.cursor in
     (by (reading.TermsRead p _ c.args.self.now.tree.now _) c.in_err-first.field-0.0 (fails c.in_err-first.field-0.0 (goes (starts p c.args.self.now.tree.now (w.some_terms p.words.now p.at p.within)) c.in_ok-part.ensures.0.0) c.in_err-first.ensures.0) c.from_residual-in_err-first.result c.from_residual-in_err-first.ensures.1, c.in_err-first.ensures.1 ∙ c.in_ok-part.ensures.1)
-
-pub terms-returns-in_err-add_part : goal.terms-returns-in_err-add_part
-terms-returns-in_err-add_part t c =
-    let p = c.args.self.now.cursor in
-    (by (reading.TermsRead p _ c.args.self.now.tree.now _) c.in_err-add_part.field-0.0 (lacks_parts c.in_err-add_part.field-0.0 (gains (goes (starts p c.args.self.now.tree.now (w.some_terms p.words.now p.at p.within)) c.in_ok-part.ensures.0.0) c.in_ok-first.ensures.0.0 c.in_ok-first.ensures.0.2.3) (omega arith) c.in_err-add_part.ensures) c.from_residual-in_err-add_part.result c.from_residual-in_err-add_part.ensures.1, c.in_ok-first.ensures.1 ∙ c.in_ok-part.ensures.1)
 
 pub terms-returns : goal.terms-returns
 terms-returns t c =

@@ -4,7 +4,7 @@ use Rattle.syntax.specs.Grammar as g
 use Rattle.syntax.proofs.Ways as w
 use Rattle.grammar.specs.Arena as at
 use Rattle.grammar.specs.Reading as reading
-use Rattle.grammar.proofs.Growth.{starts, takes, goes, reads, adds, ends, fails, misses, lacks_parts, by, base_le, grows_none, quiet_all, quiet_then}
+use Rattle.grammar.proofs.Growth.{starts, takes, goes, reads, adds, ends, fails, misses, by, base_le, grows_none, quiet_all, quiet_then}
 use Rattle.grammar.proofs.Arenas.{still_type, still_types}
 use Rattle.grammar.proofs.Productions as productions
 use Rattle.grammar.proofs.Exits as x
@@ -20,11 +20,6 @@ pub written_types-returns-in_err-first : goal.written_types-returns-in_err-first
 written_types-returns-in_err-first t c =
     let p = c.args.self.now.cursor in
     (by (reading.TypesRead p _ c.args.self.now.tree.now _) c.in_err-first.field-0.0 (fails c.in_err-first.field-0.0 (goes (starts p c.args.self.now.tree.now (w.some_types p.words.now p.at p.within)) c.in_ok-part.ensures.0.0) c.in_err-first.ensures.0) c.from_residual-in_err-first.result c.from_residual-in_err-first.ensures.1, c.in_err-first.ensures.1 ∙ c.in_ok-part.ensures.1)
-
-pub written_types-returns-in_err-add_part : goal.written_types-returns-in_err-add_part
-written_types-returns-in_err-add_part t c =
-    let p = c.args.self.now.cursor in
-    (by (reading.TypesRead p _ c.args.self.now.tree.now _) c.in_err-add_part.field-0.0 (lacks_parts c.in_err-add_part.field-0.0 (gains (goes (starts p c.args.self.now.tree.now (w.some_types p.words.now p.at p.within)) c.in_ok-part.ensures.0.0) c.in_ok-first.ensures.0.0 c.in_ok-first.ensures.0.2.3) (omega arith) c.in_err-add_part.ensures) c.from_residual-in_err-add_part.result c.from_residual-in_err-add_part.ensures.1, c.in_ok-first.ensures.1 ∙ c.in_ok-part.ensures.1)
 
 pub written_types-returns : goal.written_types-returns
 written_types-returns t c =
@@ -63,31 +58,6 @@ written_type-returns-in-Some t c =
           (λ k q h o. (_, productions.basic_written _ c.place-place.result c.place-place.ensures (subst (g.Writes _ _) (sym (x.rest_after c.advance.ensures)) b.2), at.basic_at h)),
       refl,
     )
-
-pub written_type-returns-in_err-expect : goal.written_type-returns-in_err-expect
-written_type-returns-in_err-expect t c =
-    let p = c.args.self.now.cursor in
-    (by (reading.TypeRead p _ c.args.self.now.tree.now _) c.in_err-expect.field-0.0 (misses c.in_err-expect.field-0.0 (starts p c.args.self.now.tree.now (c.in_default.ensures)) c.in_err-expect.ensures) c.from_residual.result c.from_residual.ensures.1, refl)
-
-pub written_type-returns-in_err-part : goal.written_type-returns-in_err-part
-written_type-returns-in_err-part t c =
-    let p = c.args.self.now.cursor in
-    (by (reading.TypeRead p _ c.args.self.now.tree.now _) c.in_err-part.field-0.0 (fails c.in_err-part.field-0.0 (reads (starts p c.args.self.now.tree.now (c.in_default.ensures)) c.in_ok-expect.ensures.0 c.in_ok-expect.ensures.1) c.in_err-part.ensures.0) c.from_residual-in_err-part.result c.from_residual-in_err-part.ensures.1, c.in_err-part.ensures.1)
-
-pub written_type-returns-in_err-expect-2 : goal.written_type-returns-in_err-expect-2
-written_type-returns-in_err-expect-2 t c =
-    let p = c.args.self.now.cursor in
-    (by (reading.TypeRead p _ c.args.self.now.tree.now _) c.in_err-expect-2.field-0.0 (misses c.in_err-expect-2.field-0.0 (goes (reads (starts p c.args.self.now.tree.now (c.in_default.ensures)) c.in_ok-expect.ensures.0 c.in_ok-expect.ensures.1) c.in_ok-part.ensures.0.0) c.in_err-expect-2.ensures) c.from_residual-in_err-expect-2.result c.from_residual-in_err-expect-2.ensures.1, c.in_ok-part.ensures.1)
-
-pub written_type-returns-in_err-first : goal.written_type-returns-in_err-first
-written_type-returns-in_err-first t c =
-    let p = c.args.self.now.cursor in
-    (by (reading.TypeRead p _ c.args.self.now.tree.now _) c.in_err-first.field-0.0 (fails c.in_err-first.field-0.0 (reads (goes (reads (starts p c.args.self.now.tree.now (c.in_default.ensures)) c.in_ok-expect.ensures.0 c.in_ok-expect.ensures.1) c.in_ok-part.ensures.0.0) c.in_ok-expect-2.ensures.0 c.in_ok-expect-2.ensures.1) c.in_err-first.ensures.0) c.from_residual-in_err-first.result c.from_residual-in_err-first.ensures.1, c.in_err-first.ensures.1 ∙ c.in_ok-part.ensures.1)
-
-pub written_type-returns-in_err-add_part : goal.written_type-returns-in_err-add_part
-written_type-returns-in_err-add_part t c =
-    let p = c.args.self.now.cursor in
-    (by (reading.TypeRead p _ c.args.self.now.tree.now _) c.in_err-add_part.field-0.0 (lacks_parts c.in_err-add_part.field-0.0 (goes (reads (goes (reads (starts p c.args.self.now.tree.now (c.in_default.ensures)) c.in_ok-expect.ensures.0 c.in_ok-expect.ensures.1) c.in_ok-part.ensures.0.0) c.in_ok-expect-2.ensures.0 c.in_ok-expect-2.ensures.1) c.in_ok-first.ensures.0.0) (omega arith) c.in_err-add_part.ensures) c.from_residual-in_err-add_part.result c.from_residual-in_err-add_part.ensures.1, c.in_ok-first.ensures.1 ∙ c.in_ok-part.ensures.1)
 
 pub written_type-returns : goal.written_type-returns
 written_type-returns t c =

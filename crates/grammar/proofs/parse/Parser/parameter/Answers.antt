@@ -1,7 +1,7 @@
 use Rattle.std.proofs.Common.{refl, arith}
 use Rattle.syntax.proofs.Ways as w
 use Rattle.grammar.specs.Reading as reading
-use Rattle.grammar.proofs.Growth.{starts, goes, reads, fails, misses, by}
+use Rattle.grammar.proofs.Growth.{starts, goes, reads, misses, by}
 use Rattle.grammar.proofs.Headers as h
 use Rattle.grammar.proofs.Headers.{same_size}
 use Rattle.grammar.proofs.parse.Parser.parameter.Goals as goal
@@ -10,16 +10,6 @@ pub returns-in_err-found : goal.returns-in_err-found
 returns-in_err-found c =
     let p = c.args.self.now.cursor in
     (by (reading.ParameterRead p _ c.args.self.now.tree.now _) c.in_err-found.field-0.0 (misses c.in_err-found.field-0.0 (starts p c.args.self.now.tree.now (w.a_parameter p.words.now p.at p.within)) c.in_err-found.ensures) c.from_residual.result c.from_residual.ensures.1, refl)
-
-pub returns-in_err-expect : goal.returns-in_err-expect
-returns-in_err-expect c =
-    let p = c.args.self.now.cursor in
-    (by (reading.ParameterRead p _ c.args.self.now.tree.now _) c.in_err-expect.field-0.0 (misses c.in_err-expect.field-0.0 (reads (starts p c.args.self.now.tree.now (w.a_parameter p.words.now p.at p.within)) c.in_ok-found.ensures.0 c.in_ok-found.ensures.1) c.in_err-expect.ensures) c.from_residual-in_err-expect.result c.from_residual-in_err-expect.ensures.1, refl)
-
-pub returns-in_err-written : goal.returns-in_err-written
-returns-in_err-written c =
-    let p = c.args.self.now.cursor in
-    (by (reading.ParameterRead p _ c.args.self.now.tree.now _) c.in_err-written.field-0.0 (fails c.in_err-written.field-0.0 (reads (reads (starts p c.args.self.now.tree.now (w.a_parameter p.words.now p.at p.within)) c.in_ok-found.ensures.0 c.in_ok-found.ensures.1) c.in_ok-expect.ensures.0 c.in_ok-expect.ensures.1) c.in_err-written.ensures.0) c.from_residual-in_err-written.result c.from_residual-in_err-written.ensures.1, c.in_err-written.ensures.1)
 
 pub returns : goal.returns
 returns c =
