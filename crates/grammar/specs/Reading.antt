@@ -198,6 +198,6 @@ OperationRead p q t u = Answers m.operation (λ _. (o : s.Operation) × g.Declar
 abbrev pub ListingRead : Cursor → Cursor → Tree → Tree → Result (Unit {0}) Stop → Type 0
 ListingRead p q t u = Answers m.listing (λ _. (l : s.Program) × g.Lists (rest p) l.operations l.run_place l.main (rest q) × StandsFor u (length (operations_of t)) l) (λ t u. Unit {0}) p q t u
 
--- That is answered by a parser p, which is then q and has the same tree.
+-- A parser answers that, being p before and q after it, and still fills the same tree.
 abbrev pub Parses : {V : Type 0} → (Cursor → Cursor → Tree → Tree → Result V Stop → Type 0) → Parser → Parser → Result V Stop → Type 0
 Parses A p q r = A p.cursor q.cursor p.tree.now q.tree.now r × (q.tree.ghost_name ≡ p.tree.ghost_name)
