@@ -16,7 +16,7 @@ use Rattle.grammar.specs.declared.tree.Basic.TheVariants as basics
 use Rattle.grammar.specs.declared.tree.Binder as binders
 use Rattle.grammar.specs.declared.tree.Tree.{Tree}
 use Rattle.grammar.specs.declared.parse.Stop.{Stop}
-use Rattle.grammar.specs.declared.parse.Parser.{Parser}
+use Rattle.grammar.specs.declared.parse.Cursor.{Cursor}
 use Rattle.grammar.specs.Arena.{Node, At, NamesAt, no_names_at, Stands, PartsAt, no_parts_at, parts_at, TypesAt, no_types_at, types_at, TypeAt}
 use Rattle.grammar.specs.Parsing.{Grows, nodes_of, parts_of, kind_of, place_or}
 use Rattle.grammar.specs.Reading.{Quiet, Progress, Answers, Expected, IsWord, BasicFound, rest, Passed, Here, Added, keyword, NameRead, MoreNamesRead, TermRead, PlainRead, TermsRead, MoreRead, TypesRead, MoreTypesRead}
@@ -29,46 +29,43 @@ pub sized : {X : Type 0} (v : Vec X Global) → vec_len v ≡ length (vec_items 
 sized v = v.ok.0
 
 -- The word at hand, and the words after it.
-pub rest_after : {p q : Parser} → Passed p q → rest q ≡ drop (p.at + 1) p.words.now
+pub rest_after : {p q : Cursor} → Passed p q → rest q ≡ drop (p.at + 1) p.words.now
 rest_after {p} {q} h = ap (λ n. drop n q.words.now) h.at ∙ ap (drop (p.at + 1)) h.words
 
-pub here_then : {p q : Parser} {v : Word} → Here p v → Passed p q → rest p ≡ v ∷ rest q
+pub here_then : {p q : Cursor} {v : Word} → Here p v → Passed p q → rest p ≡ v ∷ rest q
 here_then {v = v} h k = h.1 ∙ ap (λ ws. v ∷ ws) (sym (rest_after k))
 
-pub is_word : {p q : Parser} (k : Kind) → heads k (rest p) ≡ true → Passed p q → IsWord k (rest p) (rest q)
+pub is_word : {p q : Cursor} (k : Kind) → heads k (rest p) ≡ true → Passed p q → IsWord k (rest p) (rest q)
 is_word {p} k e h = let (l, x, i, d) = w.there p.words.now k p.at e in (x, i, here_then (l, d) h)
 
-pub before_end : (p : Parser) (k : Kind) → heads k (rest p) ≡ true → p.at < length p.words.now
-before_end p k e = (w.there p.words.now k p.at e).0
-
-pub later : {x : Want} {p q : Parser} {ys : List Want} → Way x p.words.now p.at ys (p.at + 1) → Passed p q → Way x p.words.now p.at ys q.at
+pub later : {x : Want} {p q : Cursor} {ys : List Want} → Way x p.words.now p.at ys (p.at + 1) → Passed p q → Way x p.words.now p.at ys q.at
 later {x} {p} {ys = ys} h k = subst (Way x p.words.now p.at ys) (sym k.at) h
 
 -- a function read the next thing wanted, and the tables grew by less than it has words
-pub gains : {x y : Want} {p q r : Parser} {b : ℕ} {ys : List Want} {t u v : Tree} → Path x p (y ∷ ys) q t u b → Progress y q r u v → Grows u v (q.at + 1) r.at → Path x p ys r t v (b + 1)
+pub gains : {x y : Want} {p q r : Cursor} {b : ℕ} {ys : List Want} {t u v : Tree} → Path x p (y ∷ ys) q t u b → Progress y q r u v → Grows u v (q.at + 1) r.at → Path x p ys r t v (b + 1)
 gains {r = r} {b} o h g = record { words = h.words ∙ o.words; way = w.on o.way (same_words o.words h.way); base = omega (arith, o.base); grows = grows_then o.grows g (b + 1) r.at (omega arith) }
 
 -- A node was added for what was read.
-pub finish : {Y : Type 0} (R : List Word → Y → List Word → Type 0) (S : List Node → List ℕ → ℕ → Y → Type 0) {x : Want} {p q : Parser} {b : ℕ} {t u v : Tree} (n : Node) (r : Result ℕ Stop) → Path x p [] q t u b → p.at < b → Quiet t u → Added n u v r → ((k : ℕ) → k ≡ length (nodes_of u) → At (nodes_of v) k n → Grows u v 0 1 → (y : Y) × R (rest p) y (rest q) × S (nodes_of v) (parts_of v) k y) → Answers x (λ i. (y : Y) × R (rest p) y (rest q) × S (nodes_of v) (parts_of v) i y) Quiet p q t v r
+pub finish : {Y : Type 0} (R : List Word → Y → List Word → Type 0) (S : List Node → List ℕ → ℕ → Y → Type 0) {x : Want} {p q : Cursor} {b : ℕ} {t u v : Tree} (n : Node) (r : Result ℕ Stop) → Path x p [] q t u b → p.at < b → Quiet t u → Added n u v r → ((k : ℕ) → k ≡ length (nodes_of u) → At (nodes_of v) k n → Grows u v 0 1 → (y : Y) × R (rest p) y (rest q) × S (nodes_of v) (parts_of v) k y) → Answers x (λ i. (y : Y) × R (rest p) y (rest q) × S (nodes_of v) (parts_of v) i y) Quiet p q t v r
 finish R S {p = p} n (Ok k) a l o h f = (ends (adds p.at a h.0 (omega arith) l), omega (arith, l, base_le a), f k h.1 h.3 h.0, quiet_then o (record { parameters = h.5; operations = h.6 }))
 finish R S n (Err e) a l o h f = lacks e a l h
 
-pub grows_from : {p q : Parser} {t u : Tree} (r : Parser) → Passed p q → Grows t u q.at r.at → Grows t u (p.at + 1) r.at
+pub grows_from : {p q : Cursor} {t u : Tree} (r : Cursor) → Passed p q → Grows t u q.at r.at → Grows t u (p.at + 1) r.at
 grows_from {t = t} {u} r s g = subst (λ n. Grows t u n r.at) s.at g
 
 -- A function hands on what another answers.
-pub plain_by : (p q : Parser) (t u : Tree) (r : Result ℕ Stop) → Way m.term p.words.now p.at (m.plain ∷ []) p.at → PlainRead p q t u r → TermRead p q t u r
+pub plain_by : (p q : Cursor) (t u : Tree) (r : Result ℕ Stop) → Way m.term p.words.now p.at (m.plain ∷ []) p.at → PlainRead p q t u r → TermRead p q t u r
 plain_by p q t u (Ok i) a h = (ends (goes (starts p t a) h.0), h.1, (h.2.0, g.plain_term h.2.1, h.2.2), h.3)
 plain_by p q t u (Err e) a h = fails e (starts p t a) h
 
-pub plain_headed : (p : Parser) (k : Kind) → Some k ≡ kind_of (rest p) → (k ≡ Let → ⊥) → (k ≡ Mut → ⊥) → (k ≡ Set → ⊥) → (k ≡ Using → ⊥) → (k ≡ If → ⊥) → Way m.term p.words.now p.at (m.plain ∷ []) p.at
+pub plain_headed : (p : Cursor) (k : Kind) → Some k ≡ kind_of (rest p) → (k ≡ Let → ⊥) → (k ≡ Mut → ⊥) → (k ≡ Set → ⊥) → (k ≡ Using → ⊥) → (k ≡ If → ⊥) → Way m.term p.words.now p.at (m.plain ∷ []) p.at
 plain_headed p k e a b c d f = w.plain_only p.words.now p.at p.within (not_headed k Let _ e a) (not_headed k Mut _ e b) (not_headed k Set _ e c) (not_headed k Using _ e d) (not_headed k If _ e f)
 
-pub plain_unheaded : (p : Parser) → None ≡ kind_of (rest p) → Way m.term p.words.now p.at (m.plain ∷ []) p.at
+pub plain_unheaded : (p : Cursor) → None ≡ kind_of (rest p) → Way m.term p.words.now p.at (m.plain ∷ []) p.at
 plain_unheaded p e = w.plain_only p.words.now p.at p.within (unheaded Let _ e) (unheaded Mut _ e) (unheaded Set _ e) (unheaded Using _ e) (unheaded If _ e)
 
 -- after a comma
-module _ (p q r : Parser) (e : heads Comma (rest p) ≡ true) (s : Passed p q) where
+module _ (p q r : Cursor) (e : heads Comma (rest p) ≡ true) (s : Passed p q) where
   pub more_by : (t u : Tree) (i : Result ℕ Stop) → TermsRead q r t u i → MoreRead p r t u i
   more_by t u (Ok i) h =
       let o = takes p t (w.kind_word p.words.now m.more p.at Comma (m.terms ∷ []) e (λ x i. refl)) s in
@@ -82,16 +79,16 @@ module _ (p q r : Parser) (e : heads Comma (rest p) ≡ true) (s : Passed p q) w
   more_types_by t u (Err d) h = fails d (takes p t (w.kind_word p.words.now m.more_types p.at Comma (m.types ∷ []) e (λ x i. refl)) s) h
 
 -- no more names
-pub names_end_by : (p q : Parser) (t : Tree) (r : Result (Unit {0}) Stop) → heads Comma (rest p) ≡ false → Expected Close p q r → MoreNamesRead p q t t r
+pub names_end_by : (p q : Cursor) (t : Tree) (r : Result (Unit {0}) Stop) → heads Comma (rest p) ≡ false → Expected Close p q r → MoreNamesRead p q t t r
 names_end_by p q t (Ok i) e h = (ends (reads (starts p t (w.names_close p.words.now p.at p.within e)) h.0 h.1), omega (arith, h.0.at), ([], names_none h.2, no_names_at), quiet_all t)
 names_end_by p q t (Err i) e h = misses i (starts p t (w.names_close p.words.now p.at p.within e)) h
 
 -- a comma, a name, and more names
-module _ (p q : Parser) (t : Tree) (e : heads Comma (rest p) ≡ true) (s : Passed p q) where
+module _ (p q : Cursor) (t : Tree) (e : heads Comma (rest p) ≡ true) (s : Passed p q) where
   pub names_path : Path m.names p (m.a_name ∷ m.names ∷ []) q t t (p.at + 1)
   names_path = takes p t (w.kind_word p.words.now m.names p.at Comma (m.a_name ∷ m.names ∷ []) e (λ x i. refl)) s
 
-  pub names_next_by : (r z : Parser) (u v : Tree) (i : Result (Unit {0}) Stop) → NameRead q r t u (Ok tt) → MoreNamesRead r z u v i → MoreNamesRead p z t v i
+  pub names_next_by : (r z : Cursor) (u v : Tree) (i : Result (Unit {0}) Stop) → NameRead q r t u (Ok tt) → MoreNamesRead r z u v i → MoreNamesRead p z t v i
   names_next_by r z u v (Ok i) a h =
       let o = goes (goes names_path a.0) h.0 in
       (ends o, omega (arith, h.1, a.1, s.at), (a.2.0 ∷ h.2.0, names_next (is_word Comma e s) a.2.1 h.2.1, names_join h.0.grows.nodes.kept a.2.2 h.2.2), quiet_then a.3 h.3)
@@ -134,25 +131,25 @@ pub names_between : {ns : List Node} {f e : ℕ} {us : List s.Identifier} (a b :
 names_between {ns} {us = us} a b p q h = subst₂ (λ f e. NamesAt ns f e us) (sym p) (sym q) h
 
 -- the words that are types by themselves
-pub unit_here : (p : Parser) → Some kind.Unit ≡ kind_of (rest p) → BasicFound p (Some basics.Unit)
+pub unit_here : (p : Cursor) → Some kind.Unit ≡ kind_of (rest p) → BasicFound p (Some basics.Unit)
 unit_here p e =
     let h = headed kind.Unit (rest p) e in
     let (l, x, i, d) = w.there p.words.now kind.Unit p.at h in
     (l, w.kind_word p.words.now m.a_type p.at kind.Unit [] h (λ x i. refl), unit_written (place_or 0 (rest p)) refl (x, i, d))
 
-pub bit_here : (p : Parser) → Some kind.Bit ≡ kind_of (rest p) → BasicFound p (Some basics.Bit)
+pub bit_here : (p : Cursor) → Some kind.Bit ≡ kind_of (rest p) → BasicFound p (Some basics.Bit)
 bit_here p e =
     let h = headed kind.Bit (rest p) e in
     let (l, x, i, d) = w.there p.words.now kind.Bit p.at h in
     (l, w.kind_word p.words.now m.a_type p.at kind.Bit [] h (λ x i. refl), bit_written (place_or 0 (rest p)) refl (x, i, d))
 
-pub int_here : (p : Parser) → Some kind.Int ≡ kind_of (rest p) → BasicFound p (Some basics.Int)
+pub int_here : (p : Cursor) → Some kind.Int ≡ kind_of (rest p) → BasicFound p (Some basics.Int)
 int_here p e =
     let h = headed kind.Int (rest p) e in
     let (l, x, i, d) = w.there p.words.now kind.Int p.at h in
     (l, w.kind_word p.words.now m.a_type p.at kind.Int [] h (λ x i. refl), int_written (place_or 0 (rest p)) refl (x, i, d))
 
-pub qbit_here : (p : Parser) → Some kind.Qbit ≡ kind_of (rest p) → BasicFound p (Some basics.Qbit)
+pub qbit_here : (p : Cursor) → Some kind.Qbit ≡ kind_of (rest p) → BasicFound p (Some basics.Qbit)
 qbit_here p e =
     let h = headed kind.Qbit (rest p) e in
     let (l, x, i, d) = w.there p.words.now kind.Qbit p.at h in

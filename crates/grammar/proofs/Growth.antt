@@ -5,7 +5,7 @@ use Rattle.words.specs.declared.token.Word.{Word}
 use Rattle.syntax.specs.Machine.{Want, Way, Stops}
 use Rattle.syntax.proofs.Ways.{through, on, stops}
 use Rattle.grammar.specs.declared.tree.Tree.{Tree}
-use Rattle.grammar.specs.declared.parse.Parser.{Parser}
+use Rattle.grammar.specs.declared.parse.Cursor.{Cursor}
 use Rattle.grammar.specs.declared.parse.Stop.{Stop}
 use Rattle.grammar.specs.declared.parse.Stop.TheVariants as stop
 use Rattle.grammar.specs.Parsing.{Kept, Grew, Grows, Spare, Room}
@@ -50,26 +50,26 @@ pub same_words : {y : Want} {ws vs : List Word} {i j : ℕ} {zs : List Want} →
 same_words {y} {i = i} {j = j} {zs = zs} e w = subst (λ ws. Way y ws i zs j) e w
 
 -- As Progress, where the things ys are still wanted, and the tables have grown by no more than the words from b on.
-pub record Path (x : Want) (p : Parser) (ys : List Want) (q : Parser) (t u : Tree) (b : ℕ) : Type 0 where
+pub record Path (x : Want) (p : Cursor) (ys : List Want) (q : Cursor) (t u : Tree) (b : ℕ) : Type 0 where
   pub words : q.words.now ≡ p.words.now
   pub way : Way x p.words.now p.at ys q.at
   pub base : p.at ≤ b
   pub grows : Grows t u b q.at
 
 -- no word was passed
-pub starts : {x : Want} {ys : List Want} (p : Parser) (t : Tree) → Way x p.words.now p.at ys p.at → Path x p ys p t t p.at
+pub starts : {x : Want} {ys : List Want} (p : Cursor) (t : Tree) → Way x p.words.now p.at ys p.at → Path x p ys p t t p.at
 starts p t w = record { words = refl; way = w; base = omega arith; grows = grows_none t p.at p.at (omega arith) }
 
 -- the first word was passed
-pub takes : {x : Want} {q : Parser} {ys : List Want} (p : Parser) (t : Tree) → Way x p.words.now p.at ys (p.at + 1) → Passed p q → Path x p ys q t t (p.at + 1)
+pub takes : {x : Want} {q : Cursor} {ys : List Want} (p : Cursor) (t : Tree) → Way x p.words.now p.at ys (p.at + 1) → Passed p q → Path x p ys q t t (p.at + 1)
 takes {x} {q} {ys} p t w h = record { words = h.words; way = subst (Way x p.words.now p.at ys) (sym h.at) w; base = omega arith; grows = grows_none t (p.at + 1) q.at (omega (arith, h.at)) }
 
 -- a function read the next thing wanted
-pub goes : {x y : Want} {p q r : Parser} {b : ℕ} {ys : List Want} {t u v : Tree} → Path x p (y ∷ ys) q t u b → Progress y q r u v → Path x p ys r t v b
+pub goes : {x y : Want} {p q r : Cursor} {b : ℕ} {ys : List Want} {t u v : Tree} → Path x p (y ∷ ys) q t u b → Progress y q r u v → Path x p ys r t v b
 goes {r = r} {b = b} o h = record { words = h.words ∙ o.words; way = on o.way (same_words o.words h.way); base = o.base; grows = grows_then o.grows h.grows b r.at (omega arith) }
 
 -- a word was passed where other things are then wanted, and no table grew
-pub passes : {x y : Want} {p q r : Parser} {b : ℕ} {ys : List Want} {t u : Tree} (zs : List Want) → Path x p (y ∷ ys) q t u b → Way y q.words.now q.at zs (q.at + 1) → Passed q r → Path x p (zs ++ ys) r t u (b + 1)
+pub passes : {x y : Want} {p q r : Cursor} {b : ℕ} {ys : List Want} {t u : Tree} (zs : List Want) → Path x p (y ∷ ys) q t u b → Way y q.words.now q.at zs (q.at + 1) → Passed q r → Path x p (zs ++ ys) r t u (b + 1)
 passes {y = y} {p} {q} {r} {b} {u = u} zs o w h = record {
   words = h.words ∙ o.words;
   way = through zs o.way (same_words o.words (subst (Way y q.words.now q.at zs) (sym h.at) w));
@@ -78,52 +78,48 @@ passes {y = y} {p} {q} {r} {b} {u = u} zs o w h = record {
 }
 
 -- the next thing wanted was one word
-pub reads : {x y : Want} {p q r : Parser} {b : ℕ} {ys : List Want} {t u : Tree} → Path x p (y ∷ ys) q t u b → Passed q r → Way y q.words.now q.at [] r.at → Path x p ys r t u (b + 1)
+pub reads : {x y : Want} {p q r : Cursor} {b : ℕ} {ys : List Want} {t u : Tree} → Path x p (y ∷ ys) q t u b → Passed q r → Way y q.words.now q.at [] r.at → Path x p ys r t u (b + 1)
 reads {y = y} {q = q} o h w = passes [] o (subst (Way y q.words.now q.at []) h.at w) h
 
 -- what is wanted next is wanted in other words
-pub turns : {x y : Want} {p q : Parser} {b : ℕ} {ys : List Want} {t u : Tree} (zs : List Want) → Path x p (y ∷ ys) q t u b → Way y q.words.now q.at zs q.at → Path x p (zs ++ ys) q t u b
+pub turns : {x y : Want} {p q : Cursor} {b : ℕ} {ys : List Want} {t u : Tree} (zs : List Want) → Path x p (y ∷ ys) q t u b → Way y q.words.now q.at zs q.at → Path x p (zs ++ ys) q t u b
 turns zs o w = record { words = o.words; way = through zs o.way (same_words o.words w); base = o.base; grows = o.grows }
 
 -- a table grew by an entry
-pub adds : {x : Want} {p q : Parser} {b : ℕ} {ys : List Want} {t u v : Tree} (a : ℕ) → Path x p ys q t u b → Grows u v 0 1 → p.at ≤ a → a < b → Path x p ys q t v a
+pub adds : {x : Want} {p q : Cursor} {b : ℕ} {ys : List Want} {t u v : Tree} (a : ℕ) → Path x p ys q t u b → Grows u v 0 1 → p.at ≤ a → a < b → Path x p ys q t v a
 adds {q = q} a o g l h = record { words = o.words; way = o.way; base = l; grows = grows_then o.grows g a q.at (omega (arith, h)) }
 
-pub base_le : {x : Want} {p q : Parser} {b : ℕ} {ys : List Want} {t u : Tree} → Path x p ys q t u b → b ≤ q.at
+pub base_le : {x : Want} {p q : Cursor} {b : ℕ} {ys : List Want} {t u : Tree} → Path x p ys q t u b → b ≤ q.at
 base_le o = omega (arith, o.grows.nodes.few, o.grows.nodes.kept.longer)
 
-pub ends : {x : Want} {p q : Parser} {b : ℕ} {t u : Tree} → Path x p [] q t u b → Progress x p q t u
+pub ends : {x : Want} {p q : Cursor} {b : ℕ} {t u : Tree} → Path x p [] q t u b → Progress x p q t u
 ends {p = p} {q = q} {u = u} o = record { words = o.words; way = o.way; grows = grows_then o.grows (grows_none u 0 0 (omega arith)) p.at q.at (omega (arith, o.base)) }
 
 -- Why a function stopped that its caller hands on.
 stops_there : {y : Want} {ws vs : List Word} {i j : ℕ} → ws ≡ vs → Stops y ws i j → Stops y vs i j
 stops_there {y} {i = i} {j = j} e w = subst (λ ws. Stops y ws i j) e w
 
-pub fails : {x y : Want} {p q : Parser} {b : ℕ} {ys : List Want} {t u : Tree} (e : Stop) → Path x p (y ∷ ys) q t u b → Halts y q u e → Halts x p t e
+pub fails : {x y : Want} {p q : Cursor} {b : ℕ} {ys : List Want} {t u : Tree} (e : Stop) → Path x p (y ∷ ys) q t u b → Halts y q u e → Halts x p t e
 fails (stop.At j) o h = stops o.way (stops_there o.words h)
 fails {p = p} {q} stop.Memory o h = λ r. h (room_after o.grows q.at (length q.words.now) p.at (length p.words.now) (omega (arith, o.base, ap length o.words)) r)
 
-pub misses : {x y : Want} {p q : Parser} {b : ℕ} {ys : List Want} {t u : Tree} (e : Stop) → Path x p (y ∷ ys) q t u b → Misses y q e → Halts x p t e
+pub misses : {x y : Want} {p q : Cursor} {b : ℕ} {ys : List Want} {t u : Tree} (e : Stop) → Path x p (y ∷ ys) q t u b → Misses y q e → Halts x p t e
 misses (stop.At j) o h = stops o.way (stops_there o.words h)
 misses stop.Memory o h = absurd h
 
 -- no table has room for one more entry
-lacks_room : {x : Want} {p q : Parser} {b : ℕ} {ys : List Want} {t u : Tree} → Path x p ys q t u b → p.at < b → Room t p.at (length p.words.now) → Room u 0 1
+lacks_room : {x : Want} {p q : Cursor} {b : ℕ} {ys : List Want} {t u : Tree} → Path x p ys q t u b → p.at < b → Room t p.at (length p.words.now) → Room u 0 1
 lacks_room {p = p} o l r = room_after o.grows 0 1 p.at (length p.words.now) (omega (arith, l, o.way.within)) r
 
-pub lacks : {x : Want} {p q : Parser} {b : ℕ} {ys : List Want} {t u : Tree} (e : Stop) → Path x p ys q t u b → p.at < b → Lacks u.nodes e → Halts x p t e
+pub lacks : {x : Want} {p q : Cursor} {b : ℕ} {ys : List Want} {t u : Tree} (e : Stop) → Path x p ys q t u b → p.at < b → Lacks u.nodes e → Halts x p t e
 lacks (stop.At j) o l h = absurd h
 lacks stop.Memory o l h = λ r. h (lacks_room o l r).nodes
 
-pub lacks_parts : {x : Want} {p q : Parser} {b : ℕ} {ys : List Want} {t u : Tree} (e : Stop) → Path x p ys q t u b → p.at < b → Lacks u.parts e → Halts x p t e
-lacks_parts (stop.At j) o l h = absurd h
-lacks_parts stop.Memory o l h = λ r. h (lacks_room o l r).parts
-
-pub lacks_parameters : {x : Want} {p q : Parser} {b : ℕ} {ys : List Want} {t u : Tree} (e : Stop) → Path x p ys q t u b → p.at < b → Lacks u.parameters e → Halts x p t e
+pub lacks_parameters : {x : Want} {p q : Cursor} {b : ℕ} {ys : List Want} {t u : Tree} (e : Stop) → Path x p ys q t u b → p.at < b → Lacks u.parameters e → Halts x p t e
 lacks_parameters (stop.At j) o l h = absurd h
 lacks_parameters stop.Memory o l h = λ r. h (lacks_room o l r).parameters
 
-pub lacks_operations : {x : Want} {p q : Parser} {b : ℕ} {ys : List Want} {t u : Tree} (e : Stop) → Path x p ys q t u b → p.at < b → Lacks u.operations e → Halts x p t e
+pub lacks_operations : {x : Want} {p q : Cursor} {b : ℕ} {ys : List Want} {t u : Tree} (e : Stop) → Path x p ys q t u b → p.at < b → Lacks u.operations e → Halts x p t e
 lacks_operations (stop.At j) o l h = absurd h
 lacks_operations stop.Memory o l h = λ r. h (lacks_room o l r).operations
 

@@ -16,7 +16,7 @@ use Rattle.grammar.specs.declared.tree.Parameter as parameters
 use Rattle.grammar.specs.declared.tree.Operation as operations
 use Rattle.grammar.specs.declared.tree.Tree.{Tree}
 use Rattle.grammar.specs.declared.parse.GrammarFault.{GrammarFault}
-use Rattle.grammar.specs.declared.parse.Parser.{Parser}
+use Rattle.grammar.specs.declared.parse.Cursor.{Cursor}
 use Rattle.grammar.specs.declared.parse.Stop.{Stop}
 use Rattle.grammar.specs.declared.parse.Stop.TheVariants as stop
 use Rattle.grammar.specs.Arena.{Node, At, node, Spells, NamesAt, no_names_at, names_at, TypeAt, ParametersAt, no_parameters_at, parameters_at, OperationAt, OperationsAt, no_operations_at, operations_at}
@@ -34,28 +34,28 @@ same_size e = ap (λ v. length (vec_items v)) e
 pub one_parameter_at : {ns : List Node} {ps : List ℕ} {xs : List parameters.Parameter} {l e : ℕ} (i a : ℕ) (n : names.Name) (d : s.Parameter) → At xs i (record { name = n; written = a }) → Spells n d.name → TypeAt ns ps a d.written → i ≡ l → e ≡ i + 1 → ParametersAt ns ps xs l e (d ∷ [])
 one_parameter_at {ns} {ps} {xs} i a n d h k t p q = subst₂ (λ f o. ParametersAt ns ps xs f o (d ∷ [])) p (sym q) (parameters_at h k t no_parameters_at)
 
-pub parameters_end_by : (p q : Parser) (t : Tree) (r : Result (Unit {0}) Stop) → heads Comma (rest p) ≡ false → Expected Close p q r → MoreParametersRead p q t t r
+pub parameters_end_by : (p q : Cursor) (t : Tree) (r : Result (Unit {0}) Stop) → heads Comma (rest p) ≡ false → Expected Close p q r → MoreParametersRead p q t t r
 parameters_end_by p q t (Ok i) e h = (ends (reads (starts p t (w.parameters_close p.words.now p.at p.within e)) h.0 h.1), omega (arith, h.0.at), ([], no_more_parameters h.2, no_parameters_at, omega (arith, h.0.at)), refl)
 parameters_end_by p q t (Err i) e h = misses i (starts p t (w.parameters_close p.words.now p.at p.within e)) h
 
-module _ (p q : Parser) (t : Tree) (e : heads Comma (rest p) ≡ true) (s : Passed p q) where
+module _ (p q : Cursor) (t : Tree) (e : heads Comma (rest p) ≡ true) (s : Passed p q) where
   pub parameters_path : Path m.more_parameters p (m.parameter ∷ m.more_parameters ∷ []) q t t (p.at + 1)
   parameters_path = takes p t (w.kind_word p.words.now m.more_parameters p.at Comma (m.parameter ∷ m.more_parameters ∷ []) e (λ x i. refl)) s
 
-  pub parameters_next_by : (r z : Parser) (u v : Tree) (i : Result (Unit {0}) Stop) → ParameterRead q r t u (Ok tt) → MoreParametersRead r z u v i → MoreParametersRead p z t v i
+  pub parameters_next_by : (r z : Cursor) (u v : Tree) (i : Result (Unit {0}) Stop) → ParameterRead q r t u (Ok tt) → MoreParametersRead r z u v i → MoreParametersRead p z t v i
   parameters_next_by r z u v (Ok i) a h =
       let o = h.0.grows in
       (ends (goes (goes parameters_path a.0) h.0), omega (arith, h.1, a.1, s.at), (a.2.0 ∷ h.2.0, more_parameters_there (is_word Comma e s) a.2.1 h.2.1, parameters_join o.nodes.kept o.parts.kept o.parameters.kept a.2.2 h.2.2, omega (arith, a.2.3, h.2.3, s.at)), h.3 ∙ a.3)
   parameters_next_by r z u v (Err i) a h = fails i (goes parameters_path a.0) h
 
-pub parameters_none : (p q : Parser) (t : Tree) → heads Close (rest p) ≡ true → Passed p q → ParametersAreRead p q t t (Ok tt)
+pub parameters_none : (p q : Cursor) (t : Tree) → heads Close (rest p) ≡ true → Passed p q → ParametersAreRead p q t t (Ok tt)
 parameters_none p q t e s = (ends (takes p t (w.kind_word p.words.now m.parameters p.at Close [] e (λ x i. refl)) s), omega (arith, s.at), ([], no_parameters_there (is_word Close e s), no_parameters_at, omega (arith, s.at)), refl)
 
-module _ (p : Parser) (t : Tree) (e : heads Close (rest p) ≡ false) where
+module _ (p : Cursor) (t : Tree) (e : heads Close (rest p) ≡ false) where
   pub some_path : Path m.parameters p (m.parameter ∷ m.more_parameters ∷ []) p t t p.at
   some_path = starts p t (w.some_parameters p.words.now p.at p.within e)
 
-  pub some_by : (q z : Parser) (u v : Tree) (i : Result (Unit {0}) Stop) → ParameterRead p q t u (Ok tt) → MoreParametersRead q z u v i → ParametersAreRead p z t v i
+  pub some_by : (q z : Cursor) (u v : Tree) (i : Result (Unit {0}) Stop) → ParameterRead p q t u (Ok tt) → MoreParametersRead q z u v i → ParametersAreRead p z t v i
   some_by q z u v (Ok i) a h =
       let o = h.0.grows in
       (ends (goes (goes some_path a.0) h.0), omega (arith, h.1, a.1), (a.2.0 ∷ h.2.0, g.some_parameters a.2.1 h.2.1, parameters_join o.nodes.kept o.parts.kept o.parameters.kept a.2.2 h.2.2, omega (arith, a.2.3, h.2.3)), h.3 ∙ a.3)
@@ -101,7 +101,7 @@ module _ (at : ℕ) (t u : Tree) (l : at < length (parameters_of t)) where
   next_named n c i v (Err stop.Memory) f a h = λ k. h (omega (arith, k, same_size a.5, a.0.nodes.few, a.0.nodes.room))
 
 -- The parameters and the nodes of their names together.
-module _ (p q : Parser) {t u : Tree} (o : Grows t u p.at q.at) (few : Few t u p.at q.at) where
+module _ (p q : Cursor) {t u : Tree} (o : Grows t u p.at q.at) (few : Few t u p.at q.at) where
   pub signature_grows : {v : Tree} → Grew u.nodes v.nodes (length (parameters_of t)) (length (parameters_of u)) → v.parts ≡ u.parts → v.parameters ≡ u.parameters → v.operations ≡ u.operations → Grows t v p.at q.at
   signature_grows {v} h a b d = record {
     nodes = record { kept = kept_then o.nodes.kept h.kept; few = omega (arith, few, h.few); room = omega (arith, o.nodes.room, h.room) };
@@ -109,10 +109,6 @@ module _ (p q : Parser) {t u : Tree} (o : Grows t u p.at q.at) (few : Few t u p.
     parameters = subst (λ w. Grew t.parameters w p.at q.at) (sym b) o.parameters;
     operations = subst (λ w. Grew t.operations w p.at q.at) (sym d) o.operations;
   }
-
-  pub signature_fails : (x : Want) (v : Tree) (e : Stop) → q.at ≤ length p.words.now → ParametersNamed (length (parameters_of t)) u v (Err e) → Halts x p t e
-  signature_fails x v (stop.At i) l h = absurd h
-  signature_fails x v stop.Memory l h = λ r. h (omega (arith, l, few, r.nodes, o.nodes.room))
 
 pub still_parameters : {t u : Tree} {i j a b : ℕ} {ds : List s.Parameter} → Grows t u i j → ParametersAt (nodes_of t) (parts_of t) (parameters_of t) a b ds → ParametersAt (nodes_of u) (parts_of u) (parameters_of u) a b ds
 still_parameters g h = parameters_kept g.nodes.kept g.parts.kept g.parameters.kept h
@@ -124,11 +120,11 @@ one_operation_at {ns} {ps} {xs} {os} i o w h k p q = subst₂ (λ f n. Operation
 pub no_operations : {ns : List Node} {ps : List ℕ} {xs : List parameters.Parameter} {os : List operations.Operation} (a b : ℕ) → a ≡ b → OperationsAt ns ps xs os a b []
 no_operations {ns} {ps} {xs} {os} a b e = subst (λ n. OperationsAt ns ps xs os a n []) e no_operations_at
 
-module _ (p : Parser) (t : Tree) (e : heads Op (rest p) ≡ true) where
+module _ (p : Cursor) (t : Tree) (e : heads Op (rest p) ≡ true) where
   pub listing_path : Path m.listing p (m.operation ∷ m.listing ∷ []) p t t p.at
   listing_path = starts p t (w.an_operation p.words.now p.at p.within (w.not_both p.words.now Op Run p.at refl e))
 
-  pub listing_by : (q z : Parser) (u v : Tree) (i : Result (Unit {0}) Stop) → OperationRead p q t u (Ok tt) → ListingRead q z u v i → ListingRead p z t v i
+  pub listing_by : (q z : Cursor) (u v : Tree) (i : Result (Unit {0}) Stop) → OperationRead p q t u (Ok tt) → ListingRead q z u v i → ListingRead p z t v i
   listing_by q z u v (Ok i) a h =
       let o = h.0.grows in
       let k = h.2.0 in
@@ -136,40 +132,40 @@ module _ (p : Parser) (t : Tree) (e : heads Op (rest p) ≡ true) where
   listing_by q z u v (Err i) a h = fails i (goes listing_path a.0) h
 
 -- The operation was added.
-pub operation_done : {p q : Parser} {b : ℕ} {u : Tree} {e : operations.Operation} (t v : Tree) (r : Result (Unit {0}) Stop) (o : s.Operation) → Path m.operation p [] q t u b → p.at < b → g.Declares (rest p) o (rest q) → ((v : Tree) → Grows u v 0 1 → OperationAt (nodes_of v) (parts_of v) (parameters_of v) e o) → length (operations_of u) ≡ length (operations_of t) → OperationAdded e u v r → OperationRead p q t v r
+pub operation_done : {p q : Cursor} {b : ℕ} {u : Tree} {e : operations.Operation} (t v : Tree) (r : Result (Unit {0}) Stop) (o : s.Operation) → Path m.operation p [] q t u b → p.at < b → g.Declares (rest p) o (rest q) → ((v : Tree) → Grows u v 0 1 → OperationAt (nodes_of v) (parts_of v) (parameters_of v) e o) → length (operations_of u) ≡ length (operations_of t) → OperationAdded e u v r → OperationRead p q t v r
 operation_done {p} t v (Ok i) o a l d f n h = (ends (adds p.at a h.0 (omega arith) l), omega (arith, l, base_le a), (o, d, one_operation_at _ _ o h.2 (f v h.0) n h.1), tt)
 operation_done t v (Err i) o a l d f n h = lacks_operations i a l h
 
 -- The parameter was added.
-pub parameter_done : {p q : Parser} {b a : ℕ} {u : Tree} {A : List Word} {n : names.Name} (o : Parser) (t v : Tree) (r : Result (Unit {0}) Stop) (i : s.Identifier) → Path m.parameter p [] q t u b → p.at < b → p.at < o.at → IsName (rest p) i A → Spells n i → IsWord Colon A (rest o) → TypeRead o q t u (Ok a) → ParameterAdded n a u v r → ParameterRead p q t v r
+pub parameter_done : {p q : Cursor} {b a : ℕ} {u : Tree} {A : List Word} {n : names.Name} (o : Cursor) (t v : Tree) (r : Result (Unit {0}) Stop) (i : s.Identifier) → Path m.parameter p [] q t u b → p.at < b → p.at < o.at → IsName (rest p) i A → Spells n i → IsWord Colon A (rest o) → TypeRead o q t u (Ok a) → ParameterAdded n a u v r → ParameterRead p q t v r
 parameter_done {p} {n = n} o t v (Ok x) i path l k c d e f h =
     let size = same_size f.3.parameters in
     (ends (adds p.at path h.0 (omega arith) l), omega (arith, l, base_le path), (record { name = i; written = f.2.0 }, giving c e f.2.1, one_parameter_at _ _ n _ h.2 d (still_type h.0 f.2.2) size h.1, omega (arith, same_size h.3, h.1, size, f.0.grows.nodes.few, k)), h.5 ∙ f.3.operations)
 parameter_done o t v (Err x) i path l k c d e f h = lacks_parameters x path l h
 
--- The whole listing, read by a parser that began at the first of its words.
-module _ (ws : List Word) (n : ℕ) (p : Parser) (t u : Tree) (e : p.words.now ≡ ws) (a : p.at ≡ 0) where
-  pub whole : (q : Parser) → length ws ≤ q.at → ListingRead p q t u (Ok tt) → Parsed ws n t u (Ok tt)
-  whole q l h =
+-- The whole listing, read by a cursor that began at the first of its words; z is the tree that the parser leaves.
+module _ (ws : List Word) (n : ℕ) (p : Cursor) (t z : Tree) (e : p.words.now ≡ ws) (a : p.at ≡ 0) where
+  pub whole : (q : Cursor) (u : Tree) → z ≡ u → length ws ≤ q.at → ListingRead p q t u (Ok tt) → Parsed ws n t z (Ok tt)
+  whole q u s l h =
       let k = h.2.0 in
-      let it : g.Listing ws k = subst₂ (λ v z. g.Lists v k.operations k.run_place k.main z) (ap (λ i. drop i p.words.now) a ∙ e) (ap (drop q.at) (h.0.words ∙ e) ∙ drop_all q.at ws l) h.2.1 in
-      (grows_then h.0.grows (grows_none u 0 0 (omega arith)) 0 (length ws) (omega (arith, h.0.way.within, ap length e, a)), (k, it, (λ j o. one_tree o it), h.2.2))
+      let it : g.Listing ws k = subst₂ (λ v y. g.Lists v k.operations k.run_place k.main y) (ap (λ i. drop i p.words.now) a ∙ e) (ap (drop q.at) (h.0.words ∙ e) ∙ drop_all q.at ws l) h.2.1 in
+      subst (λ y. Parsed ws n t y (Ok tt)) (sym s) (grows_then h.0.grows (grows_none u 0 0 (omega arith)) 0 (length ws) (omega (arith, h.0.way.within, ap length e, a)), (k, it, (λ j o. one_tree o it), h.2.2))
 
-  pub not_whole : (d : Stop) (f : GrammarFault) → Halts m.listing p t d → f ≡ fault_of ws n d → Parsed ws n t u (Err f)
-  not_whole d f h k = subst (λ z. Parsed ws n t u (Err z)) (sym k) (refused d h)
+  pub not_whole : (d : Stop) (f : GrammarFault) → Halts m.listing p t d → f ≡ fault_of ws n d → Parsed ws n t z (Err f)
+  not_whole d f h k = subst (λ y. Parsed ws n t z (Err y)) (sym k) (refused d h)
     where
-      refused : (d : Stop) → Halts m.listing p t d → Parsed ws n t u (Err (fault_of ws n d))
+      refused : (d : Stop) → Halts m.listing p t d → Parsed ws n t z (Err (fault_of ws n d))
       refused (stop.At i) h = (i, w.listing_stops ws (subst₂ (λ vs at. Stops m.listing vs at i) e a h), refl)
       refused stop.Memory h = subst₂ (λ at l. Room t at l → ⊥) a (ap length e) h
 
   -- more words stand after it
-  pub goes_on : (q : Parser) (f : GrammarFault) → q.at < length ws → ListingRead p q t u (Ok tt) → f ≡ fault_of ws n (stop.At q.at) → Parsed ws n t u (Err f)
-  goes_on q f l h k = subst (λ z. Parsed ws n t u (Err z)) (sym k) (q.at, w.listing_ends ws (subst₂ (λ vs at. Way m.listing vs at [] q.at) e a h.0.way) l, refl)
+  pub goes_on : (q : Cursor) (u : Tree) (f : GrammarFault) → q.at < length ws → ListingRead p q t u (Ok tt) → f ≡ fault_of ws n (stop.At q.at) → Parsed ws n t z (Err f)
+  goes_on q u f l h k = subst (λ y. Parsed ws n t z (Err y)) (sym k) (q.at, w.listing_ends ws (subst₂ (λ vs at. Way m.listing vs at [] q.at) e a h.0.way) l, refl)
 
 kept_same : {X : Type 0} {v w : Vec X Global} → w ≡ v → Kept (vec_items v) (vec_items w)
 kept_same {v = v} e = subst (λ w. Kept (vec_items v) (vec_items w)) (sym e) (kept_all (vec_items v))
 
-pub signature_done : (p q : Parser) (t u v : Tree) (f e a z : ℕ) → f ≡ length (parameters_of t) → e ≡ length (parameters_of u) → a ≡ length (nodes_of u) → z ≡ length (nodes_of v) → ParametersAreRead p q t u (Ok tt) → ParametersNamed f u v (Ok tt) → SignatureRead p q t v (Ok (record { parameters = record { first = f; end = e }; names = record { first = a; end = z } }))
+pub signature_done : (p q : Cursor) (t u v : Tree) (f e a z : ℕ) → f ≡ length (parameters_of t) → e ≡ length (parameters_of u) → a ≡ length (nodes_of u) → z ≡ length (nodes_of v) → ParametersAreRead p q t u (Ok tt) → ParametersNamed f u v (Ok tt) → SignatureRead p q t v (Ok (record { parameters = record { first = f; end = e }; names = record { first = a; end = z } }))
 signature_done p q t u v f e a z i j r o h k =
     let b = subst (λ n. ParametersNamed n u v (Ok tt)) i k in
     let ds = h.2.0 in
@@ -180,14 +176,11 @@ signature_done p q t u v f e a z i j r o h k =
       b.3 ∙ h.3,
     )
 
-pub signature_halts : (p q : Parser) (t u v : Tree) (f : ℕ) (e : Stop) → f ≡ length (parameters_of t) → ParametersAreRead p q t u (Ok tt) → ParametersNamed f u v (Err e) → Halts m.parameters p t e
-signature_halts p q t u v f e i h k = signature_fails p q h.0.grows h.2.3 m.parameters v e h.0.way.within (subst (λ n. ParametersNamed n u v (Err e)) i k)
-
 -- the tree with the place of run and the node of its term
 abbrev with_run : Tree → ℕ → ℕ → Tree
 with_run u q n = record { nodes = u.nodes; parts = u.parts; parameters = u.parameters; operations = u.operations; run = q; term = n }
 
-pub listing_done : (p q r : Parser) (t u : Tree) (a n : ℕ) → heads Op (rest p) ≡ false → Expected Run p q (Ok tt) → TermRead q r t u (Ok n) → a ≡ place_or 0 (rest p) → ListingRead p r t (with_run u a n) (Ok tt)
+pub listing_done : (p q r : Cursor) (t u : Tree) (a n : ℕ) → heads Op (rest p) ≡ false → Expected Run p q (Ok tt) → TermRead q r t u (Ok n) → a ≡ place_or 0 (rest p) → ListingRead p r t (with_run u a n) (Ok tt)
 listing_done p q r t u a n e h k d =
     let path = ends (goes (reads (starts p t (w.no_operation p.words.now p.at p.within e)) h.0 h.1) k.0) in
     let o = path.grows in (

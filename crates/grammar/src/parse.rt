@@ -62,22 +62,21 @@ struct Signature {
 
 // The words, and which is at hand: the next one to read. It never passes their end.
 #[derive(Drop)]
-struct Parser<'a, 'b> {
+struct Cursor<'a, 'b> {
     words: &'a [Word<'b>],
     at: usize,
     ghost within: { at ≤ length words.now },
 }
 
-impl<'a, 'b> Parser<'a, 'b> {
-    ghost use Rattle.words.specs.declared.token.Kind.TheVariants.{Using, If, Meas, Open, Op};
+impl<'a, 'b> Cursor<'a, 'b> {
     ghost use Rattle.syntax.specs.Machine.{heads};
     ghost use Rattle.grammar.specs.Reading as reading;
 
-    fn new(words: &'a [Word<'b>]) -> Parser<'a, 'b>
+    fn new(words: &'a [Word<'b>]) -> Cursor<'a, 'b>
         ensures words { result.words.now ≡ words.now }
         ensures at { result.at ≡ 0 }
     {
-        Parser { words, at: 0 }
+        Cursor { words, at: 0 }
     }
 
     // Is the word at hand of that kind?
@@ -85,23 +84,6 @@ impl<'a, 'b> Parser<'a, 'b> {
         ensures { result ≡ heads kind (reading.rest self.now) }
     {
         matches!(self.words.get(self.at), Some(Word::Fixed { kind: found, .. }) if *found == kind)
-    }
-
-    // The kind of the word at hand, if it is a mark or a reserved word.
-    fn kind(&self) -> Option<Kind>
-        ensures { result ≡ parsing.kind_of (reading.rest self.now) }
-    {
-        match self.words.get(self.at) {
-            Some(Word::Fixed { kind, .. }) => Some(*kind),
-            _ => None,
-        }
-    }
-
-    // The place of the word at hand, or 0 at the end.
-    fn place(&self) -> usize
-        ensures { result ≡ parsing.place_or 0 (reading.rest self.now) }
-    {
-        place_at(self.words, self.at, 0)
     }
 
     // Passes the word at hand.
@@ -138,79 +120,120 @@ impl<'a, 'b> Parser<'a, 'b> {
         self.advance();
         Ok(found)
     }
+}
+
+// What reads the words into the tree.
+#[derive(Drop)]
+struct Parser<'a, 'b, 't> {
+    cursor: Cursor<'a, 'b>,
+    tree: &'t mut Tree,
+}
+
+impl Parser<'_, '_, '_> {
+    ghost use Rattle.words.specs.declared.token.Kind.TheVariants.{Using, If, Meas, Open, Op};
+    ghost use Rattle.syntax.specs.Machine.{heads};
+    ghost use Rattle.grammar.specs.Reading as reading;
+
+    // Is the word at hand of that kind? The check has no rule for a look at the cursor alone from a method that takes `&mut self`.
+    fn holds(&self, kind: Kind) -> bool
+        ensures { result ≡ heads kind (reading.rest self.now.cursor) }
+    {
+        self.cursor.holds(kind)
+    }
+
+    // The kind of the word at hand, if it is a mark or a reserved word.
+    fn kind(&self) -> Option<Kind>
+        ensures { result ≡ parsing.kind_of (reading.rest self.now.cursor) }
+    {
+        match self.cursor.words.get(self.cursor.at) {
+            Some(Word::Fixed { kind, .. }) => Some(*kind),
+            _ => None,
+        }
+    }
+
+    // The place of the word at hand; at the end 0, which no caller uses.
+    fn place(&self) -> usize
+        ensures { result ≡ parsing.place_or 0 (reading.rest self.now.cursor) }
+    {
+        place_at(self.cursor.words, self.cursor.at, 0)
+    }
 
     // The node of a name.
-    fn name(&mut self, tree: &mut Tree) -> Result<(), Stop>
-        ensures { reading.NameRead self.old self.new tree.old tree.new result }
+    fn name(&mut self) -> Result<(), Stop>
+        ensures { reading.Parses reading.NameRead self.old self.new result }
     {
-        let found = self.expect_name()?;
-        tree.add_node(found.place, Construct::Named(found))?;
+        let found = self.cursor.expect_name()?;
+        self.tree.add_node(found.place, Construct::Named(found))?;
         Ok(())
     }
 
     // {, name} )
     // More names, terms, types and parameters are read alike; what they ensure differs, and each is a rule of the grammar, so they are no one generic function.
-    fn more_names(&mut self, tree: &mut Tree) -> Result<(), Stop>
-        ensures { reading.MoreNamesRead self.old self.new tree.old tree.new result }
+    fn more_names(&mut self) -> Result<(), Stop>
+        ensures { reading.Parses reading.MoreNamesRead self.old self.new result }
     {
         if !self.holds(Kind::Comma) {
-            return self.expect(Kind::Close);
+            return self.cursor.expect(Kind::Close);
         }
-        self.advance();
-        self.name(tree)?;
-        self.more_names(tree)
+        self.cursor.advance();
+        self.name()?;
+        self.more_names()
     }
 
     // name, or ( name , name {, name} )
-    fn pattern(&mut self, tree: &mut Tree) -> Result<Range, Stop>
-        ensures { reading.PatternIsRead self.old self.new tree.old tree.new result }
+    fn pattern(&mut self) -> Result<Range, Stop>
+        ensures { reading.Parses reading.PatternIsRead self.old self.new result }
     {
-        let first = tree.nodes.len();
+        let first = self.tree.nodes.len();
         if !self.holds(Kind::Open) {
-            self.name(tree)?;
-            let end = tree.nodes.len();
-            return Ok(Range { first, end });
+            self.name()?;
+            return Ok(Range {
+                first,
+                end: self.tree.nodes.len(),
+            });
         }
-        self.advance();
-        self.name(tree)?;
-        self.expect(Kind::Comma)?;
-        self.name(tree)?;
-        self.more_names(tree)?;
-        let last = tree.nodes.len();
-        Ok(Range { first, end: last })
+        self.cursor.advance();
+        self.name()?;
+        self.cursor.expect(Kind::Comma)?;
+        self.name()?;
+        self.more_names()?;
+        Ok(Range {
+            first,
+            end: self.tree.nodes.len(),
+        })
     }
 
     #[cycle(term_readers)]
-    fn term(&mut self, tree: &mut Tree) -> Result<usize, Stop>
-        ensures { reading.TermRead self.old self.new tree.old tree.new result }
+    fn term(&mut self) -> Result<usize, Stop>
+        ensures { reading.Parses reading.TermRead self.old self.new result }
     {
         let Some(kind) = self.kind() else {
-            return self.plain_term(tree);
+            return self.plain_term();
         };
         match kind {
-            Kind::Let => self.bind_term(Binder::Let, tree),
-            Kind::Mut => self.bind_term(Binder::Mut, tree),
-            Kind::Set => self.bind_term(Binder::Set, tree),
-            Kind::Using => self.using_term(tree),
-            Kind::If => self.if_term(tree),
-            _ => self.plain_term(tree),
+            Kind::Let => self.bind_term(Binder::Let),
+            Kind::Mut => self.bind_term(Binder::Mut),
+            Kind::Set => self.bind_term(Binder::Set),
+            Kind::Using => self.using_term(),
+            Kind::If => self.if_term(),
+            _ => self.plain_term(),
         }
     }
 
     // (let | mut | set) pattern = term in term
     #[cycle(term_readers)]
-    fn bind_term(&mut self, binder: Binder, tree: &mut Tree) -> Result<usize, Stop>
-        requires begins { heads (reading.keyword binder) (reading.rest self.old) ≡ true }
-        ensures { reading.TermRead self.old self.new tree.old tree.new result }
+    fn bind_term(&mut self, binder: Binder) -> Result<usize, Stop>
+        requires begins { heads (reading.keyword binder) (reading.rest self.old.cursor) ≡ true }
+        ensures { reading.Parses reading.TermRead self.old self.new result }
     {
         let place = self.place();
-        self.advance();
-        let names = self.pattern(tree)?;
-        self.expect(Kind::Equals)?;
-        let right = self.term(tree)?;
-        self.expect(Kind::In)?;
-        let body = self.term(tree)?;
-        tree.add_node(
+        self.cursor.advance();
+        let names = self.pattern()?;
+        self.cursor.expect(Kind::Equals)?;
+        let right = self.term()?;
+        self.cursor.expect(Kind::In)?;
+        let body = self.term()?;
+        self.tree.add_node(
             place,
             Construct::Bind {
                 binder,
@@ -223,32 +246,32 @@ impl<'a, 'b> Parser<'a, 'b> {
 
     // using pattern in term
     #[cycle(term_readers)]
-    fn using_term(&mut self, tree: &mut Tree) -> Result<usize, Stop>
-        requires begins { heads Using (reading.rest self.old) ≡ true }
-        ensures { reading.TermRead self.old self.new tree.old tree.new result }
+    fn using_term(&mut self) -> Result<usize, Stop>
+        requires begins { heads Using (reading.rest self.old.cursor) ≡ true }
+        ensures { reading.Parses reading.TermRead self.old self.new result }
     {
         let place = self.place();
-        self.advance();
-        let names = self.pattern(tree)?;
-        self.expect(Kind::In)?;
-        let body = self.term(tree)?;
-        tree.add_node(place, Construct::Using { names, body })
+        self.cursor.advance();
+        let names = self.pattern()?;
+        self.cursor.expect(Kind::In)?;
+        let body = self.term()?;
+        self.tree.add_node(place, Construct::Using { names, body })
     }
 
     // if term then term else term
     #[cycle(term_readers)]
-    fn if_term(&mut self, tree: &mut Tree) -> Result<usize, Stop>
-        requires begins { heads If (reading.rest self.old) ≡ true }
-        ensures { reading.TermRead self.old self.new tree.old tree.new result }
+    fn if_term(&mut self) -> Result<usize, Stop>
+        requires begins { heads If (reading.rest self.old.cursor) ≡ true }
+        ensures { reading.Parses reading.TermRead self.old self.new result }
     {
         let place = self.place();
-        self.advance();
-        let condition = self.term(tree)?;
-        self.expect(Kind::Then)?;
-        let yes = self.term(tree)?;
-        self.expect(Kind::Else)?;
-        let other = self.term(tree)?;
-        tree.add_node(
+        self.cursor.advance();
+        let condition = self.term()?;
+        self.cursor.expect(Kind::Then)?;
+        let yes = self.term()?;
+        self.cursor.expect(Kind::Else)?;
+        let other = self.term()?;
+        self.tree.add_node(
             place,
             Construct::If {
                 condition,
@@ -259,138 +282,138 @@ impl<'a, 'b> Parser<'a, 'b> {
     }
 
     #[cycle(term_readers)]
-    fn plain_term(&mut self, tree: &mut Tree) -> Result<usize, Stop>
-        ensures { reading.PlainRead self.old self.new tree.old tree.new result }
+    fn plain_term(&mut self) -> Result<usize, Stop>
+        ensures { reading.Parses reading.PlainRead self.old self.new result }
     {
-        let Some(word) = self.words.get(self.at) else {
-            return Err(Stop::At(self.at));
+        let Some(word) = self.cursor.words.get(self.cursor.at) else {
+            return Err(Stop::At(self.cursor.at));
         };
         match *word {
             Word::Name { text, place } => {
                 let span = text.len();
-                self.name_or_call(Name { place, span }, tree)
+                self.name_or_call(Name { place, span })
             }
-            Word::Number { place, value, .. } => {
-                self.constant(place, Constant::Number(value), tree)
-            }
-            Word::Gate { place, gate, .. } => self.gate_term(place, gate, tree),
+            Word::Number { place, value, .. } => self.constant(place, Constant::Number(value)),
+            Word::Gate { place, gate, .. } => self.gate_term(place, gate),
             Word::Fixed { place, kind, .. } => match kind {
-                Kind::Zero => self.constant(place, Constant::Zero, tree),
-                Kind::One => self.constant(place, Constant::One, tree),
-                Kind::Meas => self.meas_term(tree),
-                Kind::Open => self.parenthesis(tree),
-                _ => Err(Stop::At(self.at)),
+                Kind::Zero => self.constant(place, Constant::Zero),
+                Kind::One => self.constant(place, Constant::One),
+                Kind::Meas => self.meas_term(),
+                Kind::Open => self.parenthesis(),
+                _ => Err(Stop::At(self.cursor.at)),
             },
         }
     }
 
     // The node of a constant that is the word at hand.
-    fn constant(&mut self, place: usize, constant: Constant, tree: &mut Tree) -> Result<usize, Stop>
-        requires begins { reading.ConstantHere self.old place constant }
-        ensures { reading.PlainRead self.old self.new tree.old tree.new result }
+    fn constant(&mut self, place: usize, constant: Constant) -> Result<usize, Stop>
+        requires begins { reading.ConstantHere self.old.cursor place constant }
+        ensures { reading.Parses reading.PlainRead self.old self.new result }
     {
-        self.advance();
-        tree.add_node(place, Construct::Constant(constant))
+        self.cursor.advance();
+        self.tree.add_node(place, Construct::Constant(constant))
     }
 
     // name, or name ( arguments )
     #[cycle(term_readers)]
-    fn name_or_call(&mut self, found: Name, tree: &mut Tree) -> Result<usize, Stop>
-        requires begins { reading.NameHere self.old found }
-        ensures { reading.PlainRead self.old self.new tree.old tree.new result }
+    fn name_or_call(&mut self, found: Name) -> Result<usize, Stop>
+        requires begins { reading.NameHere self.old.cursor found }
+        ensures { reading.Parses reading.PlainRead self.old self.new result }
     {
-        self.advance();
+        self.cursor.advance();
         if !self.holds(Kind::Open) {
-            return tree.add_node(found.place, Construct::Use(found));
+            return self.tree.add_node(found.place, Construct::Use(found));
         }
-        self.advance();
+        self.cursor.advance();
         if self.holds(Kind::Close) {
-            self.advance();
-            let none = tree.parts.len();
-            return tree.add_built(found.place, Form::Call(found), none);
+            self.cursor.advance();
+            let none = self.tree.parts.len();
+            return self.tree.add_built(found.place, Form::Call(found), none);
         }
-        let first = self.terms(tree)?;
-        tree.add_built(found.place, Form::Call(found), first)
+        let first = self.terms()?;
+        self.tree.add_built(found.place, Form::Call(found), first)
     }
 
     // gate ( term {, term} )
     #[cycle(term_readers)]
-    fn gate_term(&mut self, place: usize, gate: Gate, tree: &mut Tree) -> Result<usize, Stop>
-        requires begins { reading.GateHere self.old place gate }
-        ensures { reading.PlainRead self.old self.new tree.old tree.new result }
+    fn gate_term(&mut self, place: usize, gate: Gate) -> Result<usize, Stop>
+        requires begins { reading.GateHere self.old.cursor place gate }
+        ensures { reading.Parses reading.PlainRead self.old self.new result }
     {
-        self.advance();
-        self.expect(Kind::Open)?;
-        let first = self.terms(tree)?;
-        tree.add_built(place, Form::Gate(gate), first)
+        self.cursor.advance();
+        self.cursor.expect(Kind::Open)?;
+        let first = self.terms()?;
+        self.tree.add_built(place, Form::Gate(gate), first)
     }
 
     // meas ( term )
     #[cycle(term_readers)]
-    fn meas_term(&mut self, tree: &mut Tree) -> Result<usize, Stop>
-        requires begins { heads Meas (reading.rest self.old) ≡ true }
-        ensures { reading.PlainRead self.old self.new tree.old tree.new result }
+    fn meas_term(&mut self) -> Result<usize, Stop>
+        requires begins { heads Meas (reading.rest self.old.cursor) ≡ true }
+        ensures { reading.Parses reading.PlainRead self.old self.new result }
     {
         let place = self.place();
-        self.advance();
-        self.expect(Kind::Open)?;
-        let part = self.term(tree)?;
-        self.expect(Kind::Close)?;
-        let first = tree.parts.len();
-        tree.add_part(part)?;
-        tree.add_built(place, Form::Meas, first)
+        self.cursor.advance();
+        self.cursor.expect(Kind::Open)?;
+        let part = self.term()?;
+        self.cursor.expect(Kind::Close)?;
+        let first = self.tree.parts.len();
+        self.tree.add_part(part)?;
+        self.tree.add_built(place, Form::Meas, first)
     }
 
     // ( ), ( term ), or ( term , term {, term} )
     #[cycle(term_readers)]
-    fn parenthesis(&mut self, tree: &mut Tree) -> Result<usize, Stop>
-        requires begins { heads Open (reading.rest self.old) ≡ true }
-        ensures { reading.PlainRead self.old self.new tree.old tree.new result }
+    fn parenthesis(&mut self) -> Result<usize, Stop>
+        requires begins { heads Open (reading.rest self.old.cursor) ≡ true }
+        ensures { reading.Parses reading.PlainRead self.old self.new result }
     {
         let place = self.place();
-        self.advance();
+        self.cursor.advance();
         if self.holds(Kind::Close) {
-            self.advance();
-            return tree.add_node(place, Construct::Constant(Constant::Unit));
+            self.cursor.advance();
+            return self
+                .tree
+                .add_node(place, Construct::Constant(Constant::Unit));
         }
-        let inner = self.term(tree)?;
+        let inner = self.term()?;
         if !self.holds(Kind::Comma) {
-            self.expect(Kind::Close)?;
+            self.cursor.expect(Kind::Close)?;
             return Ok(inner);
         }
-        self.advance();
-        let first = self.terms(tree)?;
-        tree.add_part(inner)?;
-        tree.add_built(place, Form::Tuple, first)
+        self.cursor.advance();
+        let first = self.terms()?;
+        self.tree.add_part(inner)?;
+        self.tree.add_built(place, Form::Tuple, first)
     }
 
     // term {, term} ): where their nodes begin in the table of parts, of which they are the end
     #[cycle(term_readers)]
-    fn terms(&mut self, tree: &mut Tree) -> Result<usize, Stop>
-        ensures { reading.TermsRead self.old self.new tree.old tree.new result }
+    fn terms(&mut self) -> Result<usize, Stop>
+        ensures { reading.Parses reading.TermsRead self.old self.new result }
     {
-        let part = self.term(tree)?;
-        let first = self.more_terms(tree)?;
-        tree.add_part(part)?;
+        let part = self.term()?;
+        let first = self.more_terms()?;
+        self.tree.add_part(part)?;
         Ok(first)
     }
 
     // {, term} )
     #[cycle(term_readers)]
-    fn more_terms(&mut self, tree: &mut Tree) -> Result<usize, Stop>
-        ensures { reading.MoreRead self.old self.new tree.old tree.new result }
+    fn more_terms(&mut self) -> Result<usize, Stop>
+        ensures { reading.Parses reading.MoreRead self.old self.new result }
     {
         if self.holds(Kind::Comma) {
-            self.advance();
-            return self.terms(tree);
+            self.cursor.advance();
+            return self.terms();
         }
-        self.expect(Kind::Close)?;
-        Ok(tree.parts.len())
+        self.cursor.expect(Kind::Close)?;
+        Ok(self.tree.parts.len())
     }
 
     // unit, bit, int or qbit
     fn basic(&self) -> Option<Basic>
-        ensures { reading.BasicFound self.now result }
+        ensures { reading.BasicFound self.now.cursor result }
     {
         match self.kind()? {
             Kind::Unit => Some(Basic::Unit),
@@ -403,91 +426,92 @@ impl<'a, 'b> Parser<'a, 'b> {
 
     // unit, bit, int, qbit, or ( type , type {, type} )
     #[cycle(type_readers)]
-    fn written_type(&mut self, tree: &mut Tree) -> Result<usize, Stop>
-        ensures { reading.TypeRead self.old self.new tree.old tree.new result }
+    fn written_type(&mut self) -> Result<usize, Stop>
+        ensures { reading.Parses reading.TypeRead self.old self.new result }
     {
         let place = self.place();
         if let Some(basic) = self.basic() {
-            self.advance();
-            return tree.add_node(place, Construct::BasicType(basic));
+            self.cursor.advance();
+            return self.tree.add_node(place, Construct::BasicType(basic));
         }
-        self.expect(Kind::Open)?;
-        let part = self.written_type(tree)?;
-        self.expect(Kind::Comma)?;
-        let first = self.written_types(tree)?;
-        tree.add_part(part)?;
-        let end = tree.parts.len();
-        tree.add_node(place, Construct::TupleType(Range { first, end }))
+        self.cursor.expect(Kind::Open)?;
+        let part = self.written_type()?;
+        self.cursor.expect(Kind::Comma)?;
+        let first = self.written_types()?;
+        self.tree.add_part(part)?;
+        let end = self.tree.parts.len();
+        self.tree
+            .add_node(place, Construct::TupleType(Range { first, end }))
     }
 
     // type {, type} )
     #[cycle(type_readers)]
-    fn written_types(&mut self, tree: &mut Tree) -> Result<usize, Stop>
-        ensures { reading.TypesRead self.old self.new tree.old tree.new result }
+    fn written_types(&mut self) -> Result<usize, Stop>
+        ensures { reading.Parses reading.TypesRead self.old self.new result }
     {
-        let part = self.written_type(tree)?;
-        let first = self.more_types(tree)?;
-        tree.add_part(part)?;
+        let part = self.written_type()?;
+        let first = self.more_types()?;
+        self.tree.add_part(part)?;
         Ok(first)
     }
 
     // {, type} )
     #[cycle(type_readers)]
-    fn more_types(&mut self, tree: &mut Tree) -> Result<usize, Stop>
-        ensures { reading.MoreTypesRead self.old self.new tree.old tree.new result }
+    fn more_types(&mut self) -> Result<usize, Stop>
+        ensures { reading.Parses reading.MoreTypesRead self.old self.new result }
     {
         if self.holds(Kind::Comma) {
-            self.advance();
-            return self.written_types(tree);
+            self.cursor.advance();
+            return self.written_types();
         }
-        self.expect(Kind::Close)?;
-        Ok(tree.parts.len())
+        self.cursor.expect(Kind::Close)?;
+        Ok(self.tree.parts.len())
     }
 
     // name : type
-    fn parameter(&mut self, tree: &mut Tree) -> Result<(), Stop>
-        ensures { reading.ParameterRead self.old self.new tree.old tree.new result }
+    fn parameter(&mut self) -> Result<(), Stop>
+        ensures { reading.Parses reading.ParameterRead self.old self.new result }
     {
-        let found = self.expect_name()?;
-        self.expect(Kind::Colon)?;
-        let written = self.written_type(tree)?;
-        tree.add_parameter(found, written)
+        let found = self.cursor.expect_name()?;
+        self.cursor.expect(Kind::Colon)?;
+        let written = self.written_type()?;
+        self.tree.add_parameter(found, written)
     }
 
     // {, name : type} )
-    fn more_parameters(&mut self, tree: &mut Tree) -> Result<(), Stop>
-        ensures { reading.MoreParametersRead self.old self.new tree.old tree.new result }
+    fn more_parameters(&mut self) -> Result<(), Stop>
+        ensures { reading.Parses reading.MoreParametersRead self.old self.new result }
     {
         if !self.holds(Kind::Comma) {
-            return self.expect(Kind::Close);
+            return self.cursor.expect(Kind::Close);
         }
-        self.advance();
-        self.parameter(tree)?;
-        self.more_parameters(tree)
+        self.cursor.advance();
+        self.parameter()?;
+        self.more_parameters()
     }
 
     // None, or name : type {, name : type}, and the closing parenthesis.
-    fn parameters(&mut self, tree: &mut Tree) -> Result<(), Stop>
-        ensures { reading.ParametersAreRead self.old self.new tree.old tree.new result }
+    fn parameters(&mut self) -> Result<(), Stop>
+        ensures { reading.Parses reading.ParametersAreRead self.old self.new result }
     {
         if self.holds(Kind::Close) {
-            self.advance();
+            self.cursor.advance();
             return Ok(());
         }
-        self.parameter(tree)?;
-        self.more_parameters(tree)
+        self.parameter()?;
+        self.more_parameters()
     }
 
     // The parameters of an operation with the nodes of their names, and the closing parenthesis.
-    fn signature(&mut self, tree: &mut Tree) -> Result<Signature, Stop>
-        ensures { reading.SignatureRead self.old self.new tree.old tree.new result }
+    fn signature(&mut self) -> Result<Signature, Stop>
+        ensures { reading.Parses reading.SignatureRead self.old self.new result }
     {
-        let first = tree.parameters.len();
-        self.parameters(tree)?;
-        let end = tree.parameters.len();
-        let start = tree.nodes.len();
-        tree.name_parameters(first)?;
-        let last = tree.nodes.len();
+        let first = self.tree.parameters.len();
+        self.parameters()?;
+        let end = self.tree.parameters.len();
+        let start = self.tree.nodes.len();
+        self.tree.name_parameters(first)?;
+        let last = self.tree.nodes.len();
         Ok(Signature {
             parameters: Range { first, end },
             names: Range {
@@ -498,21 +522,21 @@ impl<'a, 'b> Parser<'a, 'b> {
     }
 
     // op name ( parameters ) : type { term }
-    fn operation(&mut self, tree: &mut Tree) -> Result<(), Stop>
-        requires begins { heads Op (reading.rest self.old) ≡ true }
-        ensures { reading.OperationRead self.old self.new tree.old tree.new result }
+    fn operation(&mut self) -> Result<(), Stop>
+        requires begins { heads Op (reading.rest self.old.cursor) ≡ true }
+        ensures { reading.Parses reading.OperationRead self.old self.new result }
     {
         let place = self.place();
-        self.advance();
-        let name = self.expect_name()?;
-        self.expect(Kind::Open)?;
-        let given = self.signature(tree)?;
-        self.expect(Kind::Colon)?;
-        let result = self.written_type(tree)?;
-        self.expect(Kind::LeftBrace)?;
-        let body = self.term(tree)?;
-        self.expect(Kind::RightBrace)?;
-        tree.add_operation(Operation {
+        self.cursor.advance();
+        let name = self.cursor.expect_name()?;
+        self.cursor.expect(Kind::Open)?;
+        let given = self.signature()?;
+        self.cursor.expect(Kind::Colon)?;
+        let result = self.written_type()?;
+        self.cursor.expect(Kind::LeftBrace)?;
+        let body = self.term()?;
+        self.cursor.expect(Kind::RightBrace)?;
+        self.tree.add_operation(Operation {
             place,
             name,
             parameters: given.parameters,
@@ -523,17 +547,18 @@ impl<'a, 'b> Parser<'a, 'b> {
     }
 
     // {operation} run term
-    fn listing(&mut self, tree: &mut Tree) -> Result<(), Stop>
-        ensures { reading.ListingRead self.old self.new tree.old tree.new result }
+    fn listing(&mut self) -> Result<(), Stop>
+        ensures { reading.Parses reading.ListingRead self.old self.new result }
     {
         if self.holds(Kind::Op) {
-            self.operation(tree)?;
-            return self.listing(tree);
+            self.operation()?;
+            return self.listing();
         }
         let place = self.place();
-        self.expect(Kind::Run)?;
-        tree.term = self.term(tree)?;
-        tree.run = place;
+        self.cursor.expect(Kind::Run)?;
+        let term = self.term()?;
+        self.tree.run = place;
+        self.tree.term = term;
         Ok(())
     }
 }
@@ -581,6 +606,7 @@ impl Tree {
         requires within { first ≤ length (parsing.parameters_of self.old) }
         ensures { reading.ParametersNamed first self.old self.new result }
     {
+        // By number: a loop over the parameters would borrow the tree that it adds to.
         for at in first..self.parameters.len() {
             let found = self.parameters[at].name;
             self.add_node(found.place, Construct::Named(found))?;
@@ -601,12 +627,13 @@ impl Tree {
 pub fn parse(words: &[Word<'_>], length: usize, tree: &mut Tree) -> Result<(), GrammarFault>
     ensures { parsing.Parsed words.now length tree.old tree.new result }
 {
-    let mut parser = Parser::new(words);
-    if let Err(stop) = parser.listing(tree) {
+    let cursor = Cursor::new(words);
+    let mut parser = Parser { cursor, tree };
+    if let Err(stop) = parser.listing() {
         return Err(stop.fault(words, length));
     }
-    if parser.at < words.len() {
-        return Err(Stop::At(parser.at).fault(words, length));
+    if parser.cursor.at < words.len() {
+        return Err(Stop::At(parser.cursor.at).fault(words, length));
     }
     Ok(())
 }

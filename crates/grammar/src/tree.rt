@@ -72,7 +72,7 @@ pub enum Binder {
 
 #[derive(Clone, Copy)]
 pub enum Construct {
-    // no construct: what a look gives past the end, and where a construct would not stand after the nodes that it names
+    // no construct: what a look gives past the end, and where a construct would not stand after the nodes that it names; a case here, since who looks matches on the construct at once
     Missing,
     // a written type; its parts are a range of the table of parts
     BasicType(Basic),

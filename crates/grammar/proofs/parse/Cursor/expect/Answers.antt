@@ -1,7 +1,7 @@
 use Rattle.std.proofs.Common.{sym}
 use Rattle.syntax.proofs.Ways.{this_there}
 use Rattle.grammar.proofs.Exits.{is_word, later}
-use Rattle.grammar.proofs.parse.Parser.expect.Goals as goal
+use Rattle.grammar.proofs.parse.Cursor.expect.Goals as goal
 
 pub returns : goal.returns
 returns c =

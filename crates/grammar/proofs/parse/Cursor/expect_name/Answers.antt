@@ -3,7 +3,7 @@ use Rattle.syntax.specs.Machine.{a_name}
 use Rattle.syntax.specs.Grammar.{identifier}
 use Rattle.syntax.proofs.Ways.{word_here, word}
 use Rattle.grammar.proofs.Exits.{here_then, later}
-use Rattle.grammar.proofs.parse.Parser.expect_name.Goals as goal
+use Rattle.grammar.proofs.parse.Cursor.expect_name.Goals as goal
 
 pub returns : goal.returns
 returns c =
