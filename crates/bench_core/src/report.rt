@@ -107,5 +107,6 @@ pub(crate) fn report_text<'a>(run: &'a Run, value: &'a Value) -> Text {
     report.text.push_all(b"\nresult ");
     report.push_value(0);
     report.text.push(b'\n');
-    report.text
+    let Report { text, .. } = report;
+    text
 }

@@ -104,9 +104,9 @@ impl Value {
         ensures { held result ≡ slice_range (held self.now) first end }
     {
         let items = self.as_slice();
-        let items = &items[..end.min(items.len())];
+        let before = &items[..end.min(items.len())];
         let mut part = Value::empty();
-        part.push_all(&items[first.min(items.len())..]);
+        part.push_all(&before[first.min(before.len())..]);
         part
     }
 
