@@ -31,12 +31,12 @@ pub waits_back : {P : Code} {σ : Env} {k j : ℕ} {nd : Node} {vs : List Value}
 waits_back {P} {σ} {k} {j} {nd} {vs} {t} {u} q h = subst (λ (m : Node). Waits P σ k j m vs t u) (sym q) h
 
 -- what is a term is one of the nodes
-pub is_node : (P : Code) (i : ℕ) (nd : Node) → P.node i ≡ nd → (nd ≡ NoTerm false → ⊥) → i < P.size
+pub is_node : (P : Code) (i : ℕ) (nd : Node) → P.node i ≡ nd → ((m : Bool) → nd ≡ NoTerm m → ⊥) → i < P.size
 is_node P i nd q h = go (ltb i P.size) refl
   where
     go : (b : Bool) → ltb i P.size ≡ b → i < P.size
     go true e = ltb-true i P.size e
-    go false e = absurd (h (sym q ∙ P.past i (ltb-false i P.size e)))
+    go false e = let p = P.past i (ltb-false i P.size e) in absurd (h p.0 (sym q ∙ p.1))
 
 -- the step of the middle, and then a value in its place
 pub settles : {ops : List Op} {P : Code} {G : Env} {T : List Value} {μ μ' : Table} {fs : List Frame} {vals : List Value} {n : ℕ} {t L : Term} {v : Value} {p : Place} {ev : Event} →
@@ -128,7 +128,7 @@ module _ {ops : List Op} {P : Code} {T : List Value} {μ : Table} {vals : List V
 
       go : {t : Term} → Shape P i (Using r b) t → Around P G i fs vals (close σ t) L → Went ops P L μ (P.place i) (prepares hs) T' fs vals (entering b)
       go (shape_using {t = t} lb lr lk own mb) a =
-          enters_values σ r.first c (handle_values hs) lb (omega (arith, lr, lk)) (omega (arith, long, is_node P i (Using r b) q (λ e. never cc)))
+          enters_values σ r.first c (handle_values hs) lb (omega (arith, lr, lk)) (omega (arith, long, is_node P i (Using r b) q (λ m e. never cc)))
           (λ y l h. (own y l (omega (arith, h, lr))).1) (λ y l h. within_low σ y (omega (arith, h, lr, lk)) w) (within_lower σ (omega (arith, lb, lr, lk)) w) ti mb
           (eT ∙ ap (λ (ws : List Value). wrote (within r) ws T) (sym (handle_items hs)))
           (subst (λ (xs : List ℕ). Step ops (using_in (P.place i) (pattern (within r)) (close σ t)) μ (P.place i) [] (prepares hs) (puts xs (given (handle_values hs)) (close σ t)) μ)
@@ -151,10 +151,10 @@ module _ {ops : List Op} {P : Code} {T : List Value} {μ : Table} {vals : List V
       c = r.end - r.first
 
       kn : k < P.size
-      kn = is_node P k (Bind w r e b) q (λ z. never cc)
+      kn = is_node P k (Bind w r e b) q (λ m z. never cc)
 
       own_row : (m : Bool) → Own P m r → r.first ≤ r.end → entries P r ≡ within r
-      own_row m own lr = own_entries P m r.first c (λ y l h. (own y l (omega (arith, h, lr))).0)
+      own_row m own lr = own_entries P r.first c (λ y l h. (own y l (omega (arith, h, lr))).0)
 
       Goal : Type 0
       Goal = Went ops P L μ (P.place k) [] T' fs vals (entering b)

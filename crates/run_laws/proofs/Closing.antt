@@ -8,7 +8,7 @@ use Rattle.calculus.specs.Steps.{by_value, by_entry, stand_at, put, put_all, put
 use Rattle.calculus.proofs.Names.{never, eqb_sym}
 use Rattle.calculus.proofs.Tables.{both_true, not_false}
 use Rattle.programs.specs.declared.program.Node.TheVariants.{Place as NoTerm}
-use Rattle.run_laws.specs.Programs.{Code, range, meant, pattern, bind_term}
+use Rattle.run_laws.specs.Programs.{IsNoTerm, Code, range, meant, pattern, bind_term}
 use Rattle.run_laws.specs.Reads.{Standing, valued, mutable, Env, bare, bound, binds, stand_of, as_term, as_name, close_name, close_target, close_targets, close, close_all, closed_bind, items}
 use Rattle.grammar.specs.declared.tree.Binder.{Binder}
 use Rattle.grammar.specs.declared.tree.Binder.TheVariants.{Let, Mut, Set}
@@ -188,7 +188,7 @@ close_bind σ Let p xs t u = refl
 close_bind σ Mut p xs t u = refl
 close_bind σ Set p xs t u = ap (λ (ns : Pattern Name). set p ns (close σ t) (close σ u)) (close_pattern σ xs)
 
-pub own_entries : (P : Code) (m : Bool) (x n : ℕ) → ((y : ℕ) → x ≤ y → y < x + n → P.node y ≡ NoTerm m) → map (λ i. meant i (P.node i)) (range x n) ≡ range x n
-own_entries P m x zero h = refl
-own_entries P m x (suc n) h =
-    λ i. ap (meant x) (h x (omega arith) (omega arith)) i ∷ own_entries P m (suc x) n (λ y a b. h y (omega (arith, a)) (omega (arith, b))) i
+pub own_entries : (P : Code) (x n : ℕ) → ((y : ℕ) → x ≤ y → y < x + n → IsNoTerm (P.node y)) → map (λ i. meant i (P.node i)) (range x n) ≡ range x n
+own_entries P x zero h = refl
+own_entries P x (suc n) h =
+    λ i. ap (meant x) (h x (omega arith) (omega arith)).1 i ∷ own_entries P (suc x) n (λ y a b. h y (omega (arith, a)) (omega (arith, b))) i

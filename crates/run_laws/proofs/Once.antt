@@ -67,7 +67,7 @@ module _ {ops : List Op} {lim n : ℕ} where
       Under ops lim as_bound Γ Δ (names (pattern (entries P r))) Ts t U → Inner ops lim n t
   row_inner P m r {as_bound} {Γ} {Δ} {Ts} {t} {U} lr ln own o u =
       under_inner n (r.end - r.first) r.first (omega (arith, lr, ln)) o
-      (subst (λ (xs : List ℕ). Under ops lim as_bound Γ Δ xs Ts t U) (names_pattern (entries P r) ∙ own_entries P m r.first (r.end - r.first) (λ y l h. (own y l (omega (arith, h, lr))).0)) u)
+      (subst (λ (xs : List ℕ). Under ops lim as_bound Γ Δ xs Ts t U) (names_pattern (entries P r) ∙ own_entries P r.first (r.end - r.first) (λ y l h. (own y l (omega (arith, h, lr))).0)) u)
 
   let_inner : (P : Code) (r : Range) {p : Place} {e u : Term} → r.first ≤ r.end → r.end ≤ n → Own P false r → Inner ops lim n (bind p (pattern (entries P r)) e u) → Inner ops lim n e × Inner ops lim n u
   let_inner P r {p} {e} {u} lr ln own i = go i.has

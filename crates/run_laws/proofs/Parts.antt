@@ -171,7 +171,7 @@ module _ {ops : List Op} {P : Code} {T : List Value} {μ : Table} {fs : List Fra
       let vs = collect (take n all) no_values in
       let same : puts c.op.params (given vs) c.op.body ≡ puts (range x m) (given vs) (close bare c.op.body) =
       ap (λ (xs : List ℕ). puts xs (given vs) c.op.body) c.params ∙ ap (puts (range x m) (given vs)) (sym (close_bare c.op.body)) in
-      rw e (enters_values bare x m vs c.under (omega (arith, c.ordered, c.before)) (omega (arith, long, is_node P k (Built (Call f) r) q (λ z. never cc)))
+      rw e (enters_values bare x m vs c.under (omega (arith, c.ordered, c.before)) (omega (arith, long, is_node P k (Built (Call f) r) q (λ y z. never cc)))
       (λ y l h. (c.own y l (omega (arith, h, c.ordered))).1) (λ y l h. refl) (λ y. out) rd.tied c.body
       (eT ∙ ap (λ (ws : List Value). wrote (range x m) ws T) (sym (collect_order (take n all))))
       (subst (λ (y : Term). Step ops (build (P.place k) (call f) (front (take n all) no_terms)) μ (P.place k) [] [] y μ) same (step_build vs (front_done (take n all) none_left) (acts_call c.op c.found)))

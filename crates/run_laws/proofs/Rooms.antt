@@ -1,5 +1,5 @@
 -- Frames and kept values are few: node numbers fall along the frames, and so do the places of the parts.
-use Rattle.std.proofs.Common.{◌≡◌, ℕ, ◌+◌, ◌<◌, ◌≤◌, false, List, [], ◌∷◌, length, refl, ap, ◌∙◌, arith, length-append}
+use Rattle.std.proofs.Common.{Bool, ◌≡◌, ℕ, ◌+◌, ◌<◌, ◌≤◌, false, List, [], ◌∷◌, length, refl, ap, ◌∙◌, arith, length-append}
 use Rattle.grammar.specs.declared.tree.Range.{Range}
 use Rattle.grammar.specs.declared.tree.Binder.{Binder}
 use Rattle.programs.specs.declared.program.Act.{Act}
@@ -13,9 +13,9 @@ use Rattle.run_laws.proofs.Arms.{waits_at, shape_at, is_node}
 
 -- nothing waits, and nothing is entered, where there is no term
 waits_inside : {P : Code} {σ : Env} {k j : ℕ} {vs : List Value} {t u : Term} → Waits P σ k j (P.node k) vs t u → k < P.size
-waits_inside {P} {σ} {k} {j} {vs} {t} {u} h = is_node P k (P.node k) refl (λ e. no_wait (waits_at e h))
+waits_inside {P} {σ} {k} {j} {vs} {t} {u} h = is_node P k (P.node k) refl (λ m e. no_wait (waits_at e h))
   where
-    no_wait : {vs : List Value} {t u : Term} → Waits P σ k j (NoTerm false) vs t u → ⊥
+    no_wait : {m : Bool} {vs : List Value} {t u : Term} → Waits P σ k j (NoTerm m) vs t u → ⊥
     no_wait w = elim w [ ]
 
 pub frames_few : {P : Code} {G : Env} {n : ℕ} {fs : List Frame} {vals : List Value} {t L : Term} → Around P G n fs vals t L → n < P.size → length fs + n < P.size
@@ -63,9 +63,9 @@ vals_few {P} {G} {n} {vals = vals} o (inside {f = f} {fs = fs} vs below σ lt w 
 
 -- a term that is entered is one of the nodes
 pub entered : {P : Code} {T : List Value} {μ : Table} {fs : List Frame} {vals : List Value} {i : ℕ} {L : Term} → Reads P T μ fs vals (entering i) L → i < P.size
-entered {P} {i = i} (reads_node G σ t ti w m a) = is_node P i (P.node i) refl (λ e. no_term (shape_at e m))
+entered {P} {i = i} (reads_node G σ t ti w m a) = is_node P i (P.node i) refl (λ b e. no_term (shape_at e m))
   where
-    no_term : {t : Term} → Shape P i (NoTerm false) t → ⊥
+    no_term : {b : Bool} {t : Term} → Shape P i (NoTerm b) t → ⊥
     no_term s = elim s [ ]
 
 -- one more frame fits, and one more value

@@ -6,10 +6,10 @@ use Rattle.programs.specs.declared.program.Node.TheVariants.{Place as NoTerm, Bu
 use Rattle.calculus.specs.Syntax.{bit, qbit, no_types, ◌∷ᵗ◌, var, Op}
 use Rattle.calculus.specs.Rules.{nothing, nowhere, once, fixed, settable, may_none, may_more, Has, has_give, has_name, has_build, has_bind, has_mut, has_set, has_using, parts_none, parts_more, Under, under_none, under_more, Well}
 use Rattle.calculus.proofs.Names.{never}
-use Rattle.run_laws.specs.Programs.{Code, Own, Means, shape_constant, shape_use, shape_built, shape_bind, shape_using, listed_none, listed_more, Called, Resolved, Ordered, PairedTuples}
+use Rattle.run_laws.specs.Programs.{IsNoTerm, Code, Own, Means, shape_constant, shape_use, shape_built, shape_bind, shape_using, listed_none, listed_more, Called, Resolved, Ordered, PairedTuples}
 use Rattle.run_laws.specs.Sample.{from_to, sample_node, sample_op, sample_run, Sample}
 
-past : (i : ℕ) → 16 ≤ i → sample_node i ≡ NoTerm false
+past : (i : ℕ) → 16 ≤ i → IsNoTerm (sample_node i)
 past zero l = absurd (omega (arith, l))
 past (suc zero) l = absurd (omega (arith, l))
 past (suc (suc zero)) l = absurd (omega (arith, l))
@@ -26,7 +26,7 @@ past (suc (suc (suc (suc (suc (suc (suc (suc (suc (suc (suc (suc zero)))))))))))
 past (suc (suc (suc (suc (suc (suc (suc (suc (suc (suc (suc (suc (suc zero))))))))))))) l = absurd (omega (arith, l))
 past (suc (suc (suc (suc (suc (suc (suc (suc (suc (suc (suc (suc (suc (suc zero)))))))))))))) l = absurd (omega (arith, l))
 past (suc (suc (suc (suc (suc (suc (suc (suc (suc (suc (suc (suc (suc (suc (suc zero))))))))))))))) l = absurd (omega (arith, l))
-past (suc (suc (suc (suc (suc (suc (suc (suc (suc (suc (suc (suc (suc (suc (suc (suc i)))))))))))))))) l = refl
+past (suc (suc (suc (suc (suc (suc (suc (suc (suc (suc (suc (suc (suc (suc (suc (suc i)))))))))))))))) l = (false, refl)
 
 abbrev P : Code
 P = record {
@@ -41,7 +41,7 @@ P = record {
 }
 
 own_one : (m : Bool) (x : ℕ) → P.node x ≡ NoTerm m → P.mut_name x ≡ m → Own P m (from_to x (suc x))
-own_one m x n e y a b = let q : x ≡ y = omega (arith, a, b) in (subst (λ (z : ℕ). P.node z ≡ NoTerm m) q n, subst (λ (z : ℕ). P.mut_name z ≡ m) q e)
+own_one m x n e y a b = let q : x ≡ y = omega (arith, a, b) in ((m, subst (λ (z : ℕ). P.node z ≡ NoTerm m) q n), subst (λ (z : ℕ). P.mut_name z ≡ m) q e)
 
 body_means : Means P 1 sample_op.body
 body_means = shape_built (listed_more {a = 0} {z = 1} (omega arith) (omega arith) shape_use (listed_none refl))

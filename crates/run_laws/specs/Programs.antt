@@ -16,6 +16,10 @@ use Rattle.calculus.specs.Syntax.{var, Value, the_unit, bit_of, int_of, handle_o
 use Rattle.calculus.specs.Syntax.{Term, give, name, build, bind, mut, set, using_in, if_else, Terms, no_terms, ◌∷ˢ◌}
 use Rattle.calculus.specs.Rules.{nth}
 
+-- no term, whether or not it is a name that may be set
+abbrev pub IsNoTerm : Node → Type 0
+IsNoTerm n = (m : Bool) × (n ≡ NoTerm m)
+
 -- a program as a run looks it up: nodes, the table of parts, the place of each node's first word, the operations, and which entries are mut names
 pub record Code : Type 0 where
   pub node : ℕ → Node
@@ -26,7 +30,7 @@ pub record Code : Type 0 where
   -- how many nodes there are, and how many parts
   pub size : ℕ
   pub parts : ℕ
-  pub past : (i : ℕ) → size ≤ i → node i ≡ NoTerm false
+  pub past : (i : ℕ) → size ≤ i → IsNoTerm (node i)
 
 abbrev pub seen : Leaf → Value
 seen UnitLeaf = the_unit
@@ -75,7 +79,7 @@ bind_term Set p xs t u = set p (pattern (map var xs)) t u
 
 -- the names are entries of their own, all bound by mut or none
 abbrev pub Own : Code → Bool → Range → Type 0
-Own P m r = (x : ℕ) → r.first ≤ x → x < r.end → (P.node x ≡ NoTerm m) × (P.mut_name x ≡ m)
+Own P m r = (x : ℕ) → r.first ≤ x → x < r.end → IsNoTerm (P.node x) × (P.mut_name x ≡ m)
 
 -- a let and a mut bind names of their own; a set's are different
 abbrev pub Named : Code → Binder → Range → Type 0

@@ -8,6 +8,7 @@ use Rattle.programs.specs.declared.program.Act.TheVariants.{Meas, Call}
 use Rattle.programs.specs.declared.program.Node.{Node}
 use Rattle.programs.specs.declared.program.Node.TheVariants.{Place as NoTerm, Target, Constant, Use, Built, Bind, Using}
 use Rattle.calculus.specs.Syntax.{bit, qbit, no_types, ◌∷ᵗ◌, var, bit_of, one, meas, call, Op, Term, give, name, build, bind, mut, set, using_in, no_terms, ◌∷ˢ◌}
+use Rattle.run_laws.specs.Programs.{IsNoTerm}
 use Rattle.run_laws.specs.Whole.{Compiled}
 
 abbrev pub from_to : ℕ → ℕ → Range
@@ -34,7 +35,7 @@ sample_run = using_in 15 (one 14)
 
 -- here the place of each node is its own number
 abbrev pub Sample : Type 0
-Sample = (past : (i : ℕ) → 16 ≤ i → sample_node i ≡ NoTerm false) × Compiled (sample_op ∷ []) sample_run bit (record {
+Sample = (past : (i : ℕ) → 16 ≤ i → IsNoTerm (sample_node i)) × Compiled (sample_op ∷ []) sample_run bit (record {
   node = sample_node;
   part = λ i. slice_index (0 ∷ 3 ∷ []) i;
   place = λ i. i;
