@@ -112,10 +112,9 @@ impl<'a, 'b> Cursor<'a, 'b> {
         let Some(Word::Name { text, place }) = self.words.get(self.at) else {
             return Err(Stop::At(self.at));
         };
-        let span = text.len();
         let found = Name {
             place: *place,
-            span,
+            span: text.len(),
         };
         self.advance();
         Ok(found)
@@ -289,10 +288,10 @@ impl Parser<'_, '_, '_> {
             return Err(Stop::At(self.cursor.at));
         };
         match *word {
-            Word::Name { text, place } => {
-                let span = text.len();
-                self.name_or_call(Name { place, span })
-            }
+            Word::Name { text, place } => self.name_or_call(Name {
+                place,
+                span: text.len(),
+            }),
             Word::Number { place, value, .. } => self.constant(place, Constant::Number(value)),
             Word::Gate { place, gate, .. } => self.gate_term(place, gate),
             Word::Fixed { place, kind, .. } => match kind {
