@@ -1,5 +1,5 @@
 // The syntax tree of a listing: an arena of nodes. The nodes of a construct's parts stand before its own.
-ghost use Rattle.std.specs.Prelude.{◌≡◌, ◌-◌, true, length, IfOk};
+ghost use Rattle.std.specs.Prelude.{◌≡◌, ◌-◌, ◌==◌, if◌then◌else◌, Some, None, true, length, IfOk};
 ghost use Rattle.grammar.specs.Arena.{At};
 ghost use Rattle.grammar.specs.Trees.{Falls};
 ghost use Rattle.grammar.specs.Parsing as parsing;
@@ -29,6 +29,13 @@ impl Range {
         self.end.saturating_sub(self.first)
     }
 
+    // The number of the one entry, where there is just one.
+    pub fn single(&self) -> Option<usize>
+        ensures { result ≡ (if self.now.end - self.now.first == 1 then Some self.now.first else None) }
+    {
+        (self.len() == 1).then_some(self.first)
+    }
+
     // The numbers of the entries.
     pub fn numbers(&self) -> std::ops::Range<usize>
         ensures first { result.start ≡ self.now.first }
@@ -46,7 +53,7 @@ pub enum Constant {
     Number(u32),
 }
 
-#[derive(Clone, Copy)]
+#[derive(Clone, Copy, PartialEq, Eq)]
 pub enum Basic {
     Unit,
     Bit,

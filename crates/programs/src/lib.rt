@@ -1,4 +1,5 @@
 #![tactic(auto)]
 
 pub mod program;
+pub mod table;
 pub mod types;

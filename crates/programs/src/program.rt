@@ -1,8 +1,9 @@
 // A checked listing as a run executes it: an arena of nodes, the parts of a construct before it, names resolved to entries.
 ghost use Rattle.std.specs.Prelude.{◌≡◌, true, length, get_or, IfOk, slice_index, slice_index_or};
-ghost use Rattle.programs.specs.Programs.{nodes_of, parts_of, roots_of, no_node, no_root, Fresh, EntryAdded, NodeAdded, NodePut, PartAdded, PartsSet, RootAdded, NamedRun};
+ghost use Rattle.programs.specs.Programs.{nodes_of, parts_of, roots_of, no_node, no_root, Fresh, NodeAdded, NodePut, PartAdded, PartsSet, RootAdded, NamedRun};
 ghost use Rattle.programs.specs.Nodes.{Falls};
 
+use crate::table::add;
 use crate::types::{Typed, UNIT};
 use grammar::tree::{Binder, Range};
 use machine::order::Gate;
@@ -247,16 +248,4 @@ fn falls(at: usize, node: Node) -> bool
         Node::If { test, yes, other } => test < at && yes < at && other < at,
         _ => true,
     }
-}
-
-// Adds an entry to a table that has room for it, and answers its number.
-fn add<T: Copy>(table: &mut Vec<T>, entry: T) -> Result<usize, AllocError>
-    ensures { EntryAdded entry table.old table.new result }
-{
-    let at = table.len();
-    if at >= table.capacity() {
-        return Err(AllocError);
-    }
-    table.push_reserved(entry);
-    Ok(at)
 }
