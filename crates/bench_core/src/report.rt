@@ -1,7 +1,7 @@
 // The report of an ended run.
-use grammar::tree::Range;
+use grammar::tree::{Basic, Range};
 use programs::program::{Leaf, Program};
-use programs::types::Type;
+use programs::types::Shape;
 use runs::run::Run;
 use runs::value::{Item, Value};
 use texts::text::Text;
@@ -19,11 +19,11 @@ impl Report<'_> {
     #[cycle(type_text)]
     fn push_type(&mut self, node: usize, left: usize) {
         match self.program.typed(node).shape {
-            Type::Unit => self.text.push_all(b"unit"),
-            Type::Bit => self.text.push_all(b"bit"),
-            Type::Int => self.text.push_all(b"int"),
-            Type::Qbit => self.text.push_all(b"qbit"),
-            Type::Tuple(parts) => {
+            Shape::Basic(Basic::Unit) => self.text.push_all(b"unit"),
+            Shape::Basic(Basic::Bit) => self.text.push_all(b"bit"),
+            Shape::Basic(Basic::Int) => self.text.push_all(b"int"),
+            Shape::Basic(Basic::Qbit) => self.text.push_all(b"qbit"),
+            Shape::Tuple(parts) => {
                 self.text.push(b'(');
                 self.push_types(parts, left);
                 self.text.push(b')');

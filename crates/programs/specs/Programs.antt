@@ -7,7 +7,8 @@ use Rattle.programs.specs.declared.program.Placed.{Placed}
 use Rattle.programs.specs.declared.program.Root.{Root}
 use Rattle.programs.specs.declared.program.Node.{Node}
 use Rattle.programs.specs.declared.program.Program.{Program}
-use Rattle.programs.specs.declared.types.Type.TheVariants as type
+use Rattle.grammar.specs.declared.tree.Basic.TheVariants as basic
+use Rattle.programs.specs.Types.{one_leaf}
 use Rattle.programs.specs.declared.types.Typed.{Typed}
 
 abbrev pub nodes_of : Program → List Placed
@@ -21,7 +22,7 @@ roots_of p = vec_items p.roots
 
 -- what a look past the end gives
 abbrev pub no_node : Placed
-no_node = record { place = 0; node = Place false; typed = record { shape = type.Unit; leaves = 1; qbits = 0 } }
+no_node = record { place = 0; node = Place false; typed = one_leaf basic.Unit }
 
 abbrev pub no_root : Root
 no_root = record { body = 0; names = record { first = 0; end = 0 } }

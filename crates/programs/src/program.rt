@@ -18,7 +18,7 @@ pub enum Leaf {
     Handle(u8),
 }
 
-// What is done once the parts are values; an operation goes by its number.
+// What is done once the parts are values; an operation is named by its number.
 #[derive(Clone, Copy)]
 pub enum Act {
     Tuple,
@@ -96,7 +96,7 @@ pub struct Program {
 }
 
 impl Program {
-    // An empty program with room for so many nodes, parts and operations.
+    // An empty program with room for so many nodes, parts and operations; its term to run is node 0 until it is named, since the room is made before the listing is read.
     pub fn room(heap: Global, size: usize) -> Result<Program, AllocError>
         ensures { IfOk result (λ p. Fresh size p) }
     {
@@ -123,11 +123,13 @@ impl Program {
         self.parts.len()
     }
 
-    // The node at `at`, or the entry of a name that cannot be set where there is none.
+    // The node at `at`, or no term where there is none. No `Option`, as for the looks below: who looks matches on the node, and no term is a case of it.
     pub fn node(&self, at: usize) -> Node
         ensures { result ≡ (get_or (nodes_of self.now) at no_node).node }
     {
-        self.nodes.get(at).copied().unwrap_or(NO_NODE).node
+        self.nodes
+            .get(at)
+            .map_or(NO_NODE.node, |placed| placed.node)
     }
 
     // The node at `at`, or no term where a term that it names by its node does not stand before it.
@@ -139,11 +141,13 @@ impl Program {
         if falls(at, node) { node } else { NO_NODE.node }
     }
 
-    // The type of the node at `at`.
+    // The type of the node at `at`, or unit where there is none.
     pub fn typed(&self, at: usize) -> Typed
         ensures { result ≡ (get_or (nodes_of self.now) at no_node).typed }
     {
-        self.nodes.get(at).copied().unwrap_or(NO_NODE).typed
+        self.nodes
+            .get(at)
+            .map_or(NO_NODE.typed, |placed| placed.typed)
     }
 
     // The nodes.
@@ -153,21 +157,23 @@ impl Program {
         self.nodes.as_slice()
     }
 
-    // The place of the first word of the node at `at`.
+    // The place of the first word of the node at `at`, or 0 where there is none.
     pub fn place(&self, at: usize) -> usize
         ensures { result ≡ (get_or (nodes_of self.now) at no_node).place }
     {
-        self.nodes.get(at).copied().unwrap_or(NO_NODE).place
+        self.nodes
+            .get(at)
+            .map_or(NO_NODE.place, |placed| placed.place)
     }
 
-    // The table of parts at `at`.
+    // The entry of the table of parts at `at`, or node 0 where there is none.
     pub fn part(&self, at: usize) -> usize
         ensures { result ≡ slice_index (parts_of self.now) at }
     {
         self.parts.get(at).copied().unwrap_or(0)
     }
 
-    // The operation with so many above it.
+    // The operation with so many above it, or one of node 0 where there is none.
     pub fn root(&self, f: usize) -> Root
         ensures { result ≡ slice_index_or (roots_of self.now) f no_root }
     {
@@ -237,7 +243,7 @@ impl Program {
     }
 }
 
-// Do the terms that a node names by their nodes stand before it?
+// Do the terms that a node names by their nodes stand before it? Asked at each look, and no invariant: a node may be added whatever it names.
 fn falls(at: usize, node: Node) -> bool
     ensures falls { result ≡ true → Falls at node }
     ensures exact { Falls at node → result ≡ true }

@@ -1,51 +1,52 @@
 // The types of the nodes.
+ghost use Rattle.std.specs.Prelude.{◌≡◌};
+ghost use Rattle.programs.specs.Types.{one_leaf, linear, is_basic, parts_in};
+ghost use Rattle.grammar.specs.declared.tree.Basic.TheVariants.{Bit, Qbit};
+
 use grammar::tree::{Basic, PAIR_END, Range};
 
 // A tuple's parts are those entries of the table that its range of the table of parts names, in reverse order.
 #[derive(Clone, Copy)]
-pub enum Type {
-    Unit,
-    Bit,
-    Int,
-    Qbit,
+pub enum Shape {
+    Basic(Basic),
     Tuple(Range),
 }
 
 // A type with how many leaves it has, and how many of them are qbit.
 #[derive(Clone, Copy)]
 pub struct Typed {
-    pub shape: Type,
+    pub shape: Shape,
     pub leaves: usize,
     pub qbits: usize,
 }
 
 pub const UNIT: Typed = Typed {
-    shape: Type::Unit,
+    shape: Shape::Basic(Basic::Unit),
     leaves: 1,
     qbits: 0,
 };
 
 pub const BIT: Typed = Typed {
-    shape: Type::Bit,
+    shape: Shape::Basic(Basic::Bit),
     leaves: 1,
     qbits: 0,
 };
 
 pub const INT: Typed = Typed {
-    shape: Type::Int,
+    shape: Shape::Basic(Basic::Int),
     leaves: 1,
     qbits: 0,
 };
 
 pub const QBIT: Typed = Typed {
-    shape: Type::Qbit,
+    shape: Shape::Basic(Basic::Qbit),
     leaves: 1,
     qbits: 1,
 };
 
 // The pair of the type qbit.
 pub const PAIR: Typed = Typed {
-    shape: Type::Tuple(Range {
+    shape: Shape::Tuple(Range {
         first: 0,
         end: PAIR_END,
     }),
@@ -54,8 +55,10 @@ pub const PAIR: Typed = Typed {
 };
 
 impl From<Basic> for Typed {
-    fn from(b: Basic) -> Typed {
-        match b {
+    ghost from_gives = { λ basic typed. typed ≡ one_leaf basic };
+
+    fn from(basic: Basic) -> Typed {
+        match basic {
             Basic::Unit => UNIT,
             Basic::Bit => BIT,
             Basic::Int => INT,
@@ -66,23 +69,31 @@ impl From<Basic> for Typed {
 
 impl Typed {
     // Is a leaf qbit?
-    pub fn is_linear(&self) -> bool {
+    pub fn is_linear(&self) -> bool
+        ensures { result ≡ linear self.now }
+    {
         self.qbits > 0
     }
 
-    pub fn is_bit(&self) -> bool {
-        matches!(self.shape, Type::Bit)
+    pub fn is_bit(&self) -> bool
+        ensures { result ≡ is_basic Bit self.now.shape }
+    {
+        matches!(self.shape, Shape::Basic(Basic::Bit))
     }
 
-    pub fn is_qbit(&self) -> bool {
-        matches!(self.shape, Type::Qbit)
+    pub fn is_qbit(&self) -> bool
+        ensures { result ≡ is_basic Qbit self.now.shape }
+    {
+        matches!(self.shape, Shape::Basic(Basic::Qbit))
     }
 
     // The range of the parts of a tuple.
-    pub fn parts(&self) -> Option<Range> {
+    pub fn parts(&self) -> Option<Range>
+        ensures { result ≡ parts_in self.now.shape }
+    {
         match self.shape {
-            Type::Tuple(parts) => Some(parts),
-            _ => None,
+            Shape::Tuple(parts) => Some(parts),
+            Shape::Basic(_) => None,
         }
     }
 }

@@ -13,12 +13,11 @@ mod listing;
 mod names;
 mod terms;
 
-// A name in scope: the node that is its entry, whether it may be set, and whether it is spent.
+// A name in scope: the node that is its entry, and whether it is spent.
 #[derive(Clone, Copy)]
 pub struct Binding {
     name: Name,
     entry: usize,
-    settable: bool,
     spent: bool,
 }
 
@@ -36,9 +35,31 @@ impl Named for Binding {
     }
 }
 
+// The memory of a walk over a listing.
 #[derive(Drop)]
 pub struct Checker {
-    // a node for each node of the tree, as far as they were checked
+    program: Program,
+    scope: Vec<Binding>,
+    trail: Vec<usize>,
+}
+
+impl Checker {
+    // Room for a tree of up to `size` nodes.
+    pub fn room(heap: Global, size: usize) -> Result<Checker, AllocError> {
+        Ok(Checker {
+            program: Program::room(heap, size)?,
+            scope: Vec::with_capacity(heap, size)?,
+            trail: Vec::with_capacity(heap, size)?,
+        })
+    }
+}
+
+// A walk over a listing and its syntax tree.
+#[derive(Drop)]
+struct Walk<'a> {
+    text: &'a [u8],
+    tree: &'a Tree,
+    // a node for each node of the tree, with its type once it was checked
     program: Program,
     // the names in scope, the innermost last
     scope: Vec<Binding>,
@@ -50,38 +71,16 @@ pub struct Checker {
     above: usize,
 }
 
-impl Checker {
-    // A checker with room for a tree of up to `size` nodes.
-    pub fn room(heap: Global, size: usize) -> Result<Checker, AllocError> {
-        Ok(Checker {
-            program: Program::room(heap, size)?,
-            scope: Vec::with_capacity(heap, size)?,
-            trail: Vec::with_capacity(heap, size)?,
-            floor: 0,
-            above: 0,
-        })
-    }
-}
-
-// A walk over a listing and its syntax tree.
-#[derive(Drop)]
-struct Walk<'a> {
-    text: &'a [u8],
-    tree: &'a Tree,
-    checker: Checker,
-}
-
 impl<'a> Walk<'a> {
-    // The types of the nodes, as far as they were checked.
     fn types(&self) -> Types<'_> {
         Types {
-            nodes: self.checker.program.nodes(),
+            program: &self.program,
             parts: self.tree.parts(),
         }
     }
 
     fn type_at(&self, at: usize) -> Typed {
-        self.types().at(at)
+        self.program.typed(at)
     }
 
     // The nodes of the parts in a range, in reverse order.
@@ -100,20 +99,29 @@ impl<'a> Walk<'a> {
     }
 }
 
-// The checker after the walk over a listing that follows the rules.
-fn walked<'a>(text: &'a [u8], tree: &'a Tree, checker: Checker) -> Result<Checker, RuleFault> {
+// The program after a walk over a listing that follows the rules. A function of its own, since text and tree need one lifetime.
+fn walked<'a>(text: &'a [u8], tree: &'a Tree, checker: Checker) -> Result<Program, RuleFault> {
+    let Checker {
+        program,
+        scope,
+        trail,
+    } = checker;
     let mut walk = Walk {
         text,
         tree,
-        checker,
+        program,
+        scope,
+        trail,
+        floor: 0,
+        above: 0,
     };
     walk.listing()?;
-    Ok(walk.checker)
+    Ok(walk.program)
 }
 
 // The program of a listing that follows the rules.
 pub fn check(text: &[u8], tree: Tree, checker: Checker) -> Result<Program, RuleFault> {
-    let Checker { mut program, .. } = walked(text, &tree, checker)?;
+    let mut program = walked(text, &tree, checker)?;
     program.name_run(tree.run_term(), tree.run_place());
     program.set_parts(tree.into_parts());
     Ok(program)

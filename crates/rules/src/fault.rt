@@ -26,6 +26,7 @@ pub enum RuleFault {
     Branches { place: usize },
     // 14: a linear name is not spent at the end of its scope
     Unspent { place: usize },
+    // a case of the layer's fault, since it has no number and no place
     Memory,
 }
 

@@ -18,7 +18,7 @@ pub trait Named {
         ensures { result ≡ spans self.now };
 }
 
-// The impls differ in the path to the name alone: a trait for the path would be as long, and no macro of the repository may write an `impl`.
+// Place and length each, as the search asks for them. The impls differ in the path to the name alone, and no macro of this repository may write an `impl`.
 impl Named for Operation {
     ghost starts = { λ o. o.name.place };
 
@@ -61,7 +61,7 @@ impl Named for Name {
     }
 }
 
-// The name of a node that is one.
+// The name of a node that is one, or the empty name: the search asks each node for one.
 pub fn name_of(node: Node) -> Name
     ensures { result ≡ named node.construct }
 {

@@ -7,10 +7,10 @@ use programs::program::{Node, Placed, Root};
 use programs::types::UNIT;
 
 impl<'a> Walk<'a> {
-    // A node of the program for each node of the tree.
+    // A node of the program for each node of the tree, at once: the walk does not come to them in their order.
     fn fill(&mut self) -> Result<(), RuleFault> {
         for node in self.tree.nodes() {
-            self.checker.program.add_node(Placed {
+            self.program.add_node(Placed {
                 place: node.place,
                 node: Node::Place(false),
                 typed: UNIT,
@@ -58,7 +58,7 @@ impl<'a> Walk<'a> {
         {
             return Err(RuleFault::Taken { place: name.place });
         }
-        self.checker.above = at;
+        self.above = at;
         self.ask_parameters(operation)?;
         self.written(result)?;
         self.bind_parameters(operation)?;
@@ -67,7 +67,7 @@ impl<'a> Walk<'a> {
         if !self.types().same(body, result) {
             return Err(RuleFault::Misfit { place });
         }
-        self.checker.program.add_root(Root { body, names })?;
+        self.program.add_root(Root { body, names })?;
         Ok(())
     }
 
@@ -78,7 +78,7 @@ impl<'a> Walk<'a> {
         for (at, operation) in operations.iter().enumerate() {
             self.operation(at, *operation)?;
         }
-        self.checker.above = operations.len();
+        self.above = operations.len();
         self.term(self.tree.run_term())
     }
 }

@@ -1,5 +1,5 @@
 // The questions about names: new, in scope, unspent, and spent at the end.
-use super::{Binding, Checker, Walk};
+use super::{Binding, Walk};
 use crate::fault::RuleFault;
 use crate::search::{Named, name_of};
 use crate::types::within;
@@ -15,8 +15,8 @@ impl Walk<'_> {
 
     // A name in scope, with its place there.
     fn bound(&self, name: Name) -> Option<(usize, Binding)> {
-        let at = self.find(self.checker.scope.as_slice(), name)?;
-        let binding = self.checker.scope.get(at)?;
+        let at = self.find(self.scope.as_slice(), name)?;
+        let binding = self.scope.get(at)?;
         Some((at, *binding))
     }
 
@@ -31,35 +31,30 @@ impl Walk<'_> {
         Ok(())
     }
 
-    // The names of a pattern that stand before one of them.
-    fn before(&self, names: Range, at: usize) -> &[tree::Node] {
-        within(self.tree.nodes(), Range { end: at, ..names })
-    }
-
     // The names of a pattern are new.
     pub(super) fn ask_all_new(&self, names: Range) -> Result<(), RuleFault> {
-        for at in names.numbers() {
-            self.ask_new(self.before(names, at), self.name(at))?;
+        let nodes = within(self.tree.nodes(), names);
+        for (i, node) in nodes.iter().enumerate() {
+            self.ask_new(&nodes[..i], name_of(*node))?;
         }
         Ok(())
     }
 
-    // The names of a set are different, in scope, and bound by mut.
+    // The names of a set are different, in scope, and bound by mut. By number, since each node is put.
     pub(super) fn ask_set(&mut self, names: Range) -> Result<(), RuleFault> {
         for at in names.numbers() {
             let name = self.name(at);
             let place = name.place;
-            if self.find(self.before(names, at), name).is_some() {
+            let before = Range { end: at, ..names };
+            if self.find(within(self.tree.nodes(), before), name).is_some() {
                 return Err(RuleFault::Taken { place });
             }
             let (_, binding) = self.bound(name).ok_or(RuleFault::Unknown { place })?;
-            if !binding.settable {
+            let Node::Place(true) = self.program.node(binding.entry) else {
                 return Err(RuleFault::Fixed { place });
-            }
+            };
             let typed = self.type_at(binding.entry);
-            self.checker
-                .program
-                .put(at, Node::Target(binding.entry), typed);
+            self.program.put(at, Node::Target(binding.entry), typed);
         }
         Ok(())
     }
@@ -73,11 +68,9 @@ impl Walk<'_> {
             if binding.spent {
                 return Err(RuleFault::Spent { place });
             }
-            self.checker.spend(at, place)?;
+            self.spend(at, place)?;
         }
-        self.checker
-            .program
-            .put(node, Node::Use(binding.entry), typed);
+        self.program.put(node, Node::Use(binding.entry), typed);
         Ok(())
     }
 
@@ -89,13 +82,10 @@ impl Walk<'_> {
         typed: Typed,
         settable: bool,
     ) -> Result<(), RuleFault> {
-        self.checker
-            .program
-            .put(entry, Node::Place(settable), typed);
-        self.checker.scope.push(Binding {
+        self.program.put(entry, Node::Place(settable), typed);
+        self.scope.push(Binding {
             name,
             entry,
-            settable,
             spent: false,
         })?;
         Ok(())
@@ -109,25 +99,19 @@ impl Walk<'_> {
         Ok(())
     }
 
-    // The names of a let or a mut come into scope with the type of the right side, or its parts; those of a set are there.
+    // The names of a let or a mut come into scope with the type of the right side, or its parts.
     pub(super) fn bind_names(
         &mut self,
-        binder: Binder,
         names: Range,
         right: usize,
+        settable: bool,
     ) -> Result<(), RuleFault> {
-        if matches!(binder, Binder::Set) {
-            return Ok(());
-        }
-        let settable = matches!(binder, Binder::Mut);
         let typed = self.type_at(right);
-        if names.len() == 1 {
-            return self.bind(self.name(names.first), names.first, typed, settable);
+        if let Some(at) = names.single() {
+            return self.bind(self.name(at), at, typed, settable);
         }
-        let Some(parts) = typed.parts() else {
-            return Ok(());
-        };
-        for (at, part) in names.numbers().zip(self.parts_of(parts).iter().rev()) {
+        let parts = typed.parts().map_or(&[][..], |parts| self.parts_of(parts));
+        for (at, part) in names.numbers().zip(parts.iter().rev()) {
             let typed = self.type_at(*part);
             self.bind(self.name(at), at, typed, settable)?;
         }
@@ -149,8 +133,8 @@ impl Walk<'_> {
 
     // Does the type of a right side fit the names that it sets?
     fn fits_set(&self, names: Range, right: usize) -> bool {
-        if names.len() == 1 {
-            return self.fits_target(names.first, right);
+        if let Some(at) = names.single() {
+            return self.fits_target(at, right);
         }
         let Some(parts) = self.type_at(right).parts() else {
             return false;
@@ -164,27 +148,27 @@ impl Walk<'_> {
 
     // Has a part of a right side the type of the name that it sets?
     fn fits_target(&self, at: usize, part: usize) -> bool {
-        match self.checker.program.node(at) {
+        match self.program.node(at) {
             Node::Target(entry) => self.types().same(part, entry),
             _ => false,
         }
     }
 
-    // The names from `start` on leave the scope: the linear ones are spent.
+    // The names from `start` on leave the scope: the linear ones are spent. A `for`, since a closure over `self` in `find` gets no proof.
     pub(super) fn close(&mut self, start: usize) -> Result<(), RuleFault> {
-        for binding in self.checker.scope.iter().skip(start) {
+        for binding in self.scope.iter().skip(start) {
             if !binding.spent && self.type_at(binding.entry).is_linear() {
                 return Err(RuleFault::Unspent {
                     place: binding.name.place,
                 });
             }
         }
-        self.checker.scope.truncate(start);
+        self.scope.truncate(start);
         Ok(())
     }
 }
 
-impl Checker {
+impl Walk<'_> {
     // An unspent linear name is spent.
     fn spend(&mut self, at: usize, place: usize) -> Result<(), RuleFault> {
         if at < self.floor {

@@ -6,7 +6,7 @@ use crate::fault::RuleFault;
 use crate::types::LEAVES;
 use grammar::tree::{Binder, Constant, Construct, Form, Name, Operation, Range};
 use programs::program::{Act, Leaf, Node};
-use programs::types::{BIT, INT, PAIR, QBIT, Type, Typed, UNIT};
+use programs::types::{BIT, INT, PAIR, QBIT, Shape, Typed, UNIT};
 
 impl Walk<'_> {
     // The type of a tuple of the parts in a range: at most 8 leaves.
@@ -23,7 +23,7 @@ impl Walk<'_> {
             return Err(RuleFault::Leaves { place });
         }
         Ok(Typed {
-            shape: Type::Tuple(parts),
+            shape: Shape::Tuple(parts),
             leaves,
             qbits,
         })
@@ -43,7 +43,7 @@ impl Walk<'_> {
             }
             _ => return Ok(()),
         };
-        self.checker.program.put(at, Node::Place(false), typed);
+        self.program.put(at, Node::Place(false), typed);
         Ok(())
     }
 
@@ -79,10 +79,10 @@ impl Walk<'_> {
             Constant::One => (Leaf::Bit(true), BIT),
             Constant::Number(n) => (Leaf::Int(n), INT),
         };
-        self.checker.program.put(at, Node::Constant(leaf), typed);
+        self.program.put(at, Node::Constant(leaf), typed);
     }
 
-    // The parts of a construct, from left to right.
+    // The parts of a construct, from left to right. A `for`, since a closure gets no proof in a cycle of calls.
     #[cycle(terms)]
     fn parts(&mut self, at: usize, parts: Range) -> Result<(), RuleFault> {
         for part in self.parts_of(parts).iter().rev() {
@@ -98,9 +98,7 @@ impl Walk<'_> {
         let act = self.act(form)?;
         self.parts(at, parts)?;
         let typed = self.built_type(at, act, parts)?;
-        self.checker
-            .program
-            .put(at, Node::Built { act, parts }, typed);
+        self.program.put(at, Node::Built { act, parts }, typed);
         Ok(())
     }
 
@@ -119,7 +117,7 @@ impl Walk<'_> {
         let place = name.place;
         let found = self.find(self.tree.operations(), name);
         let f = found.ok_or(RuleFault::Unknown { place })?;
-        if f >= self.checker.above {
+        if f >= self.above {
             return Err(RuleFault::Below { place });
         }
         Ok(f)
@@ -191,8 +189,12 @@ impl Walk<'_> {
             let place = self.place(at);
             return Err(RuleFault::Misfit { place });
         }
-        let start = self.checker.scope.len();
-        self.bind_names(binder, names, right)?;
+        let start = self.scope.len();
+        match binder {
+            Binder::Let => self.bind_names(names, right, false)?,
+            Binder::Mut => self.bind_names(names, right, true)?,
+            Binder::Set => {}
+        }
         self.term(body)?;
         self.close(start)?;
         let node = Node::Bind {
@@ -202,19 +204,19 @@ impl Walk<'_> {
             body,
         };
         let typed = self.type_at(body);
-        self.checker.program.put(at, node, typed);
+        self.program.put(at, node, typed);
         Ok(())
     }
 
     // A right side: in that of a mut or a set no linear name of the scope around it may be spent.
     #[cycle(terms)]
     fn right_side(&mut self, binder: Binder, right: usize) -> Result<(), RuleFault> {
-        let floor = self.checker.floor;
+        let floor = self.floor;
         if !matches!(binder, Binder::Let) {
-            self.checker.floor = self.checker.scope.len();
+            self.floor = self.scope.len();
         }
         self.term(right)?;
-        self.checker.floor = floor;
+        self.floor = floor;
         Ok(())
     }
 
@@ -223,14 +225,12 @@ impl Walk<'_> {
         requires { body < at }
     {
         self.ask_all_new(names)?;
-        let start = self.checker.scope.len();
+        let start = self.scope.len();
         self.bind_qbits(names)?;
         self.term(body)?;
         self.close(start)?;
         let typed = self.type_at(body);
-        self.checker
-            .program
-            .put(at, Node::Using { names, body }, typed);
+        self.program.put(at, Node::Using { names, body }, typed);
         Ok(())
     }
 
@@ -245,23 +245,21 @@ impl Walk<'_> {
         if !self.type_at(test).is_bit() {
             return Err(RuleFault::Misfit { place });
         }
-        let outside = self.checker.scope.len();
-        let start = self.checker.trail.len();
+        let outside = self.scope.len();
+        let start = self.trail.len();
         self.term(yes)?;
-        let middle = self.checker.trail.len();
-        self.checker.restore(start, outside);
+        let middle = self.trail.len();
+        self.restore(start, outside);
         self.term(other)?;
         if !self.types().same(yes, other) {
             return Err(RuleFault::Misfit { place });
         }
-        if !self.checker.spent_alike(start, middle, outside) {
+        if !self.spent_alike(start, middle, outside) {
             return Err(RuleFault::Branches { place });
         }
-        self.checker.trail.truncate(middle);
+        self.trail.truncate(middle);
         let typed = self.type_at(yes);
-        self.checker
-            .program
-            .put(at, Node::If { test, yes, other }, typed);
+        self.program.put(at, Node::If { test, yes, other }, typed);
         Ok(())
     }
 }
