@@ -18,7 +18,7 @@ pub enum Leaf {
     Handle(u8),
 }
 
-// What is done once the parts are values; an operation is named by its number.
+// What is done once the parts are values: the tree's forms, with an operation's number in place of its name.
 #[derive(Clone, Copy)]
 pub enum Act {
     Tuple,
@@ -27,6 +27,7 @@ pub enum Act {
     Call(usize),
 }
 
+// The tree's constructs resolved. An enum of its own: the cases that differ are as many as those that agree.
 #[derive(Clone, Copy)]
 pub enum Node {
     // no term: a type, or the entry of a name that is bound by the construct after it, and whether the name may be set
@@ -59,7 +60,7 @@ pub enum Node {
     },
 }
 
-// A node with the place of its first word and its type.
+// A node with the place of its first word, as in the tree, and its type.
 #[derive(Clone, Copy)]
 pub struct Placed {
     pub place: usize,
@@ -86,11 +87,13 @@ const NO_ROOT: Root = Root {
     names: Range { first: 0, end: 0 },
 };
 
+// By number, as the tree: a run's state and its costs are tables with an entry for each node.
 #[derive(Drop)]
 pub struct Program {
     nodes: Vec<Placed>,
     parts: Vec<usize>,
     roots: Vec<Root>,
+    // the node of the term to run, and the place of the word run; no struct, since each look wants one of the two
     run: usize,
     run_place: usize,
 }

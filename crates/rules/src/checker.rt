@@ -21,6 +21,7 @@ pub struct Binding {
     spent: bool,
 }
 
+// As the impls of the search.
 impl Named for Binding {
     ghost starts = { λ b. b.name.place };
 

@@ -19,7 +19,7 @@ pub(crate) struct Types<'a> {
 }
 
 impl Types<'_> {
-    // Are two types equal, the first with at most `left` leaves?
+    // Are two types equal, the first with at most `left` leaves? By hand: parts are compared by number, over two tables.
     #[cycle(type_equality)]
     fn equal(&self, a: usize, b: usize, left: usize) -> bool {
         match (self.program.typed(a).shape, self.program.typed(b).shape) {

@@ -29,7 +29,7 @@ impl Walk<'_> {
         })
     }
 
-    // A written type.
+    // A written type. A part stands before it, so that the walk ends; a `for`, since a closure gets no proof in a recursion.
     pub(super) fn written(&mut self, at: usize) -> Result<(), RuleFault> {
         let typed = match self.tree.node(at).construct {
             Construct::BasicType(b) => Typed::from(b),
@@ -264,7 +264,7 @@ impl Walk<'_> {
     }
 }
 
-// The type of a gate on one qubit or on two.
+// The type of a gate: each is on one qubit or on two.
 fn gate_type(width: usize) -> Typed {
     if width == 1 { QBIT } else { PAIR }
 }
