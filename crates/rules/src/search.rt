@@ -1,4 +1,4 @@
-// One search for every kind of entry that carries a name.
+// One search for every kind of entry that has a name.
 ghost use Rattle.std.specs.Prelude.{◌≡◌, ℕ, map};
 ghost use Rattle.rules.specs.Names.{part, seek};
 ghost use Rattle.rules.specs.Nodes.{named};
