@@ -28,7 +28,7 @@ use Rattle.grammar.proofs.Productions.{names_none, names_next, more_there, more_
 pub sized : {X : Type 0} (v : Vec X Global) → vec_len v ≡ length (vec_items v)
 sized v = v.ok.0
 
--- The word at hand, and the words after it.
+-- The current word, and the words after it.
 pub rest_after : {p q : Cursor} → Passed p q → rest q ≡ drop (p.at + 1) p.words.now
 rest_after {p} {q} h = ap (λ n. drop n q.words.now) h.at ∙ ap (drop (p.at + 1)) h.words
 

@@ -60,7 +60,7 @@ struct Signature {
     names: Range,
 }
 
-// The words, and which is at hand: the next one to read. It never passes their end.
+// The words, and the place of the current one: the next to read. It never passes their end.
 #[derive(Drop)]
 struct Cursor<'a, 'b> {
     words: &'a [Word<'b>],
@@ -79,14 +79,14 @@ impl<'a, 'b> Cursor<'a, 'b> {
         Cursor { words, at: 0 }
     }
 
-    // Is the word at hand of that kind?
+    // Is the current word of that kind?
     fn holds(&self, kind: Kind) -> bool
         ensures { result ≡ heads kind (reading.rest self.now) }
     {
         matches!(self.words.get(self.at), Some(Word::Fixed { kind: found, .. }) if *found == kind)
     }
 
-    // Passes the word at hand.
+    // Passes the current word.
     fn advance(&mut self)
         requires within { self.old.at < length self.old.words.now }
         ensures { reading.Passed self.old self.new }
@@ -133,14 +133,14 @@ impl Parser<'_, '_, '_> {
     ghost use Rattle.syntax.specs.Machine.{heads};
     ghost use Rattle.grammar.specs.Reading as reading;
 
-    // Is the word at hand of that kind? The check has no rule for a look at the cursor alone from a method that takes `&mut self`.
+    // Is the current word of that kind? The check has no rule for a look at the cursor alone from a method that takes `&mut self`.
     fn holds(&self, kind: Kind) -> bool
         ensures { result ≡ heads kind (reading.rest self.now.cursor) }
     {
         self.cursor.holds(kind)
     }
 
-    // The kind of the word at hand, if it is a mark or a reserved word.
+    // The kind of the current word, if it is a mark or a reserved word.
     fn kind(&self) -> Option<Kind>
         ensures { result ≡ parsing.kind_of (reading.rest self.now.cursor) }
     {
@@ -150,7 +150,7 @@ impl Parser<'_, '_, '_> {
         }
     }
 
-    // The place of the word at hand; at the end 0, which no caller uses.
+    // The place of the current word; at the end 0, which no caller uses.
     fn place(&self) -> usize
         ensures { result ≡ parsing.place_or 0 (reading.rest self.now.cursor) }
     {
@@ -304,7 +304,7 @@ impl Parser<'_, '_, '_> {
         }
     }
 
-    // The node of a constant that is the word at hand.
+    // The node of a constant that is the current word.
     fn constant(&mut self, place: usize, constant: Constant) -> Result<usize, Stop>
         requires begins { reading.ConstantHere self.old.cursor place constant }
         ensures { reading.Parses reading.PlainRead self.old self.new result }
