@@ -17,6 +17,7 @@ pub enum GrammarFault {
 }
 
 // Why the descent stopped: at a word that does not fit, or for want of memory.
+// By word and not by place: what the readers ensure is said of words.
 #[derive(Clone, Copy)]
 enum Stop {
     At(usize),
@@ -61,6 +62,7 @@ struct Signature {
 }
 
 // The words, and the place of the current one: the next to read. It never passes their end.
+// As the reader of bytes, over words.
 #[derive(Drop)]
 struct Cursor<'a, 'b> {
     words: &'a [Word<'b>],
@@ -133,7 +135,8 @@ impl Parser<'_, '_, '_> {
     ghost use Rattle.syntax.specs.Machine.{heads};
     ghost use Rattle.grammar.specs.Reading as reading;
 
-    // Is the current word of that kind? The check has no rule for a look at the cursor alone from a method that takes `&mut self`.
+    // Is the current word of that kind?
+    // From a method that takes &mut self, a look at a field that holds a borrow gets no proof.
     fn holds(&self, kind: Kind) -> bool
         ensures { result ≡ heads kind (reading.rest self.now.cursor) }
     {
@@ -150,7 +153,8 @@ impl Parser<'_, '_, '_> {
         }
     }
 
-    // The place of the current word; at the end 0, which no caller uses.
+    // The place of the current word.
+    // 0 at the end, which no node gets: a caller that begins at no word stops there.
     fn place(&self) -> usize
         ensures { result ≡ parsing.place_or 0 (reading.rest self.now.cursor) }
     {
@@ -168,6 +172,7 @@ impl Parser<'_, '_, '_> {
 
     // {, name} )
     // More names, terms, types and parameters are read alike; what they ensure differs, and each is a rule of the grammar, so they are no one generic function.
+    // A recursion and no loop, as more_parameters and listing: each ensures a rule of the grammar, which is a recursion.
     fn more_names(&mut self) -> Result<(), Stop>
         ensures { reading.Parses reading.MoreNamesRead self.old self.new result }
     {
@@ -326,8 +331,8 @@ impl Parser<'_, '_, '_> {
         self.cursor.advance();
         if self.holds(Kind::Close) {
             self.cursor.advance();
-            let none = self.tree.parts.len();
-            return self.tree.add_built(found.place, Form::Call(found), none);
+            let first = self.tree.parts.len();
+            return self.tree.add_built(found.place, Form::Call(found), first);
         }
         let first = self.terms()?;
         self.tree.add_built(found.place, Form::Call(found), first)
@@ -529,7 +534,7 @@ impl Parser<'_, '_, '_> {
         self.cursor.advance();
         let name = self.cursor.expect_name()?;
         self.cursor.expect(Kind::Open)?;
-        let given = self.signature()?;
+        let signature = self.signature()?;
         self.cursor.expect(Kind::Colon)?;
         let result = self.written_type()?;
         self.cursor.expect(Kind::LeftBrace)?;
@@ -538,8 +543,8 @@ impl Parser<'_, '_, '_> {
         self.tree.add_operation(Operation {
             place,
             name,
-            parameters: given.parameters,
-            names: given.names,
+            parameters: signature.parameters,
+            names: signature.names,
             result,
             body,
         })

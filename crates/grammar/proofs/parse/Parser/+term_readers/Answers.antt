@@ -158,7 +158,7 @@ pub name_or_call-returns-then-holds : goal.name_or_call-returns-then-holds
 name_or_call-returns-then-holds t c =
     let p = c.args.self.now.cursor in (
       finish g.Plain at.Stands _ c.add_built.result (passes [] (passes (m.arguments ∷ []) (takes p c.args.self.now.tree.now (w.word p.words.now m.plain p.at (word.Name c.requires.begins.0 c.requires.begins.1) (m.after_name ∷ []) c.requires.begins.2.0 c.requires.begins.2.1 refl) c.advance.ensures) (w.kind_word c.advance.new.self.words.now m.after_name c.advance.new.self.at Open (m.arguments ∷ []) (sym c.if-not-holds.ensures) (λ x i. refl)) c.advance-2.ensures) (w.kind_word c.advance-2.new.self.words.now m.arguments c.advance-2.new.self.at Close [] (sym c.if-holds.ensures) (λ x i. refl)) c.advance-then-holds.ensures) (omega arith) (quiet_all c.args.self.now.tree.now) c.add_built.ensures
-          (λ k q h o. (_, productions.calling (x.here_then c.requires.begins.2 c.advance.ensures) (is_word _ (sym c.if-not-holds.ensures) c.advance-2.ensures) (productions.none_given (is_word _ (sym c.if-holds.ensures) c.advance-then-holds.ensures)), at.call_at h c.requires.begins.3 (x.parts_to q (still_parts o (x.no_parts _ _ (c.len-none.ensures ∙ sized c.args.self.now.tree.now.parts)))))),
+          (λ k q h o. (_, productions.calling (x.here_then c.requires.begins.2 c.advance.ensures) (is_word _ (sym c.if-not-holds.ensures) c.advance-2.ensures) (productions.none_given (is_word _ (sym c.if-holds.ensures) c.advance-then-holds.ensures)), at.call_at h c.requires.begins.3 (x.parts_to q (still_parts o (x.no_parts _ _ (c.len-first.ensures ∙ sized c.args.self.now.tree.now.parts)))))),
       refl,
     )
 
