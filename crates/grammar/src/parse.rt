@@ -610,10 +610,11 @@ impl Tree {
         requires within { first ≤ length (parsing.parameters_of self.old) }
         ensures { reading.ParametersNamed first self.old self.new result }
     {
-        // By number: a loop over the parameters would borrow the tree that it adds to.
-        for at in first..self.parameters.len() {
-            let found = self.parameters[at].name;
-            self.add_node(found.place, Construct::Named(found))?;
+        for parameter in &self.parameters.as_slice()[first..] {
+            self.nodes.push(Node {
+                place: parameter.name.place,
+                construct: Construct::Named(parameter.name),
+            })?;
         }
         Ok(())
     }
