@@ -202,5 +202,10 @@ pushed t v w x l c k h = (
     parameters = grew_none t.parameters 0 1 (omega arith);
     operations = grew_none t.operations 0 1 (omega arith);
   },
-  refl, l, (omega (arith, l), h), refl, refl, refl,
-  )
+  refl,
+  l,
+  (omega (arith, l), h),
+  refl,
+  refl,
+  refl,
+)

@@ -634,6 +634,7 @@ pub fn parse(words: &[Word<'_>], length: usize, tree: &mut Tree) -> Result<(), G
 {
     let cursor = Cursor::new(words);
     let mut parser = Parser { cursor, tree };
+    // No map_err: the proof did not close, as its clauses gave no fact of the closure, also where that had a clause of its own.
     if let Err(stop) = parser.listing() {
         return Err(stop.fault(words, length));
     }
