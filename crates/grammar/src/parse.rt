@@ -81,11 +81,18 @@ impl<'a, 'b> Cursor<'a, 'b> {
         Cursor { words, at: 0 }
     }
 
+    // The current word, if there is one.
+    fn word(&self) -> Option<Word<'b>>
+        ensures { result ≡ parsing.first (reading.rest self.now) }
+    {
+        self.words.get(self.at).copied()
+    }
+
     // Is the current word of that kind?
     fn holds(&self, kind: Kind) -> bool
         ensures { result ≡ heads kind (reading.rest self.now) }
     {
-        matches!(self.words.get(self.at), Some(Word::Fixed { kind: found, .. }) if *found == kind)
+        matches!(self.word(), Some(Word::Fixed { kind: found, .. }) if found == kind)
     }
 
     // Passes the current word.
@@ -111,11 +118,11 @@ impl<'a, 'b> Cursor<'a, 'b> {
     fn expect_name(&mut self) -> Result<Name, Stop>
         ensures { reading.NameFound self.old self.new result }
     {
-        let Some(Word::Name { text, place }) = self.words.get(self.at) else {
+        let Some(Word::Name { text, place }) = self.word() else {
             return Err(Stop::At(self.at));
         };
         let found = Name {
-            place: *place,
+            place,
             span: text.len(),
         };
         self.advance();
@@ -130,13 +137,20 @@ struct Parser<'a, 'b, 't> {
     tree: &'t mut Tree,
 }
 
-impl Parser<'_, '_, '_> {
+impl<'b> Parser<'_, 'b, '_> {
     ghost use Rattle.words.specs.declared.token.Kind.TheVariants.{Using, If, Meas, Open, Op};
     ghost use Rattle.syntax.specs.Machine.{heads};
     ghost use Rattle.grammar.specs.Reading as reading;
 
-    // Is the current word of that kind?
+    // The current word, if there is one.
     // From a method that takes &mut self, a look at a field that holds a borrow gets no proof.
+    fn word(&self) -> Option<Word<'b>>
+        ensures { result ≡ parsing.first (reading.rest self.now.cursor) }
+    {
+        self.cursor.word()
+    }
+
+    // Is the current word of that kind?
     fn holds(&self, kind: Kind) -> bool
         ensures { result ≡ heads kind (reading.rest self.now.cursor) }
     {
@@ -147,8 +161,8 @@ impl Parser<'_, '_, '_> {
     fn kind(&self) -> Option<Kind>
         ensures { result ≡ parsing.kind_of (reading.rest self.now.cursor) }
     {
-        match self.cursor.words.get(self.cursor.at) {
-            Some(Word::Fixed { kind, .. }) => Some(*kind),
+        match self.cursor.word() {
+            Some(Word::Fixed { kind, .. }) => Some(kind),
             _ => None,
         }
     }
@@ -289,10 +303,10 @@ impl Parser<'_, '_, '_> {
     fn plain_term(&mut self) -> Result<usize, Stop>
         ensures { reading.Parses reading.PlainRead self.old self.new result }
     {
-        let Some(word) = self.cursor.words.get(self.cursor.at) else {
+        let Some(word) = self.word() else {
             return Err(Stop::At(self.cursor.at));
         };
-        match *word {
+        match word {
             Word::Name { text, place } => self.name_or_call(Name {
                 place,
                 span: text.len(),

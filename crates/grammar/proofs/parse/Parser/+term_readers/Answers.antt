@@ -1,4 +1,4 @@
-use Rattle.std.proofs.Common.{◌+◌, [], ◌∷◌, sym, refl, ap, ◌∙◌, arith}
+use Rattle.std.proofs.Common.{rules, ◌+◌, [], ◌∷◌, sym, refl, ap, ◌∙◌, arith, Some}
 use Rattle.words.specs.declared.token.Kind.TheVariants.{Open, Close, Comma, Using, In, If, Then, Else, Meas}
 use Rattle.words.specs.declared.token.Word.TheVariants as word
 use Rattle.syntax.specs.Trees as s
@@ -258,26 +258,36 @@ more_terms-returns t c =
       refl,
     )
 
+pub plain_term-name_or_call-requires : goal.plain_term-name_or_call-requires
+plain_term-name_or_call-requires t c =
+    let h = x.here c.args.self.now.cursor (sym c.word.ensures ∙ c.in-Some.is ∙ ap Some c.in-Name.is) in
+    (search (rules, h.0), (c.in-Name.text, c.in-Name.place, h, (refl, refl)))
+
+pub plain_term-gate_term-requires : goal.plain_term-gate_term-requires
+plain_term-gate_term-requires t c =
+    let h = x.here c.args.self.now.cursor (sym c.word.ensures ∙ c.in-Some.is ∙ ap Some c.in-Gate.is) in
+    (search (rules, h.0), (c.in-Gate.text, h))
+
 pub plain_term-constant-requires : goal.plain_term-constant-requires
 plain_term-constant-requires t c =
     let p = c.args.self.now.cursor in
-    let l = c.in-Some.ensures.lookup in
-    let d = w.word_here p.words.now p.at _ _ l.3.0 (sym l.1 ∙ c.in-Number.is) in
-    record { begins = (l.3.0, w.word p.words.now m.plain p.at _ [] l.3.0 d refl, productions.number_there d) }
+    let l = x.here p (sym c.word.ensures ∙ c.in-Some.is ∙ ap Some (c.in-Number.is)) in
+    let d = l.1 in
+    record { begins = (l.0, w.word p.words.now m.plain p.at _ [] l.0 d refl, productions.number_there d) }
 
 pub plain_term-constant-requires-in-Zero : goal.plain_term-constant-requires-in-Zero
 plain_term-constant-requires-in-Zero t c =
     let p = c.args.self.now.cursor in
-    let l = c.in-Some.ensures.lookup in
-    let d = w.word_here p.words.now p.at _ _ l.3.0 (sym l.1 ∙ c.in-Fixed.is ∙ ap (word.Fixed c.in-Fixed.text c.in-Fixed.place) c.in-Zero.is) in
-    record { begins = (l.3.0, w.word p.words.now m.plain p.at _ [] l.3.0 d refl, productions.zero_there d) }
+    let l = x.here p (sym c.word.ensures ∙ c.in-Some.is ∙ ap Some (c.in-Fixed.is ∙ ap (word.Fixed c.in-Fixed.text c.in-Fixed.place) c.in-Zero.is)) in
+    let d = l.1 in
+    record { begins = (l.0, w.word p.words.now m.plain p.at _ [] l.0 d refl, productions.zero_there d) }
 
 pub plain_term-constant-requires-in-One : goal.plain_term-constant-requires-in-One
 plain_term-constant-requires-in-One t c =
     let p = c.args.self.now.cursor in
-    let l = c.in-Some.ensures.lookup in
-    let d = w.word_here p.words.now p.at _ _ l.3.0 (sym l.1 ∙ c.in-Fixed.is ∙ ap (word.Fixed c.in-Fixed.text c.in-Fixed.place) c.in-One.is) in
-    record { begins = (l.3.0, w.word p.words.now m.plain p.at _ [] l.3.0 d refl, productions.one_there d) }
+    let l = x.here p (sym c.word.ensures ∙ c.in-Some.is ∙ ap Some (c.in-Fixed.is ∙ ap (word.Fixed c.in-Fixed.text c.in-Fixed.place) c.in-One.is)) in
+    let d = l.1 in
+    record { begins = (l.0, w.word p.words.now m.plain p.at _ [] l.0 d refl, productions.one_there d) }
 
 pub term-returns-in_default : goal.term-returns-in_default
 term-returns-in_default t c =
