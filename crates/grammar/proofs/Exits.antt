@@ -1,6 +1,8 @@
 -- The exits of the functions that read terms.
-use Rattle.std.proofs.Common.{◌≡◌, ℕ, ◌+◌, ◌<◌, ◌≤◌, true, false, List, [], ◌∷◌, length, drop, Ok, Err, Some, None, vec_items, vec_len, Result, Vec, sym, refl, ap, ◌∙◌, subst, subst₂, arith}
+use Rattle.std.proofs.Common.{◌≡◌, ℕ, ◌+◌, ◌<◌, ◌≤◌, true, false, List, [], ◌∷◌, length, drop, Ok, Err, Some, None, Option, is_some, inl, inr, vec_items, vec_len, Result, Vec, sym, refl, ap, ◌∙◌, subst, subst₂, arith}
 use Rattle.std.specs.declared.alloc.Global.{Global}
+use Rattle.std.proofs.lemmas.List.{drop_more, drop_all}
+use Rattle.std.proofs.lemmas.Bool.{cases_lt, false≢true}
 use Rattle.words.specs.declared.token.Kind.{Kind}
 use Rattle.words.specs.declared.token.Kind.TheVariants.{Open, Close, Comma, Let, Mut, Set, Using, If}
 use Rattle.words.specs.declared.token.Kind.TheVariants as kind
@@ -18,7 +20,7 @@ use Rattle.grammar.specs.declared.tree.Tree.{Tree}
 use Rattle.grammar.specs.declared.parse.Stop.{Stop}
 use Rattle.grammar.specs.declared.parse.Cursor.{Cursor}
 use Rattle.grammar.specs.Arena.{Node, At, NamesAt, no_names_at, Stands, PartsAt, no_parts_at, parts_at, TypesAt, no_types_at, types_at, TypeAt}
-use Rattle.grammar.specs.Parsing.{Grows, nodes_of, parts_of, kind_of, place_or}
+use Rattle.grammar.specs.Parsing.{Grows, nodes_of, parts_of, first, kind_of, place_or}
 use Rattle.grammar.specs.Reading.{Quiet, Progress, Answers, Expected, IsWord, BasicFound, rest, Passed, Here, Added, keyword, NameRead, MoreNamesRead, TermRead, PlainRead, TermsRead, MoreRead, TypesRead, MoreTypesRead}
 use Rattle.grammar.proofs.Growth.{Path, starts, takes, goes, reads, same_words, adds, ends, fails, misses, lacks, base_le, grows_then, quiet_all, quiet_then}
 use Rattle.grammar.proofs.Arenas.{names_join, within, type_within, parts_wider, types_wider}
@@ -28,9 +30,25 @@ use Rattle.grammar.proofs.Productions.{names_none, names_next, more_there, more_
 pub sized : {X : Type 0} (v : Vec X Global) → vec_len v ≡ length (vec_items v)
 sized v = v.ok.0
 
--- The word at hand, and the words after it.
+-- The current word, and the words after it.
 pub rest_after : {p q : Cursor} → Passed p q → rest q ≡ drop (p.at + 1) p.words.now
 rest_after {p} {q} h = ap (λ n. drop n q.words.now) h.at ∙ ap (drop (p.at + 1)) h.words
+
+none_some : (o : Option Word) → o ≡ None → (v : Word) → o ≡ Some v → ⊥
+none_some None e v f = absurd (false≢true (ap is_some f))
+none_some (Some x) e v f = absurd (false≢true (sym (ap is_some e)))
+
+abbrev word_of : Word → Option Word → Word
+word_of d None = d
+word_of d (Some v) = v
+
+pub here : {v : Word} (p : Cursor) → first (rest p) ≡ Some v → Here p v
+here {v} p e =
+    let ws = p.words.now in
+    elim (cases_lt p.at (length ws)) [
+      | inl l ↦ (let d = drop_more ws p.at v l in (l, d ∙ ap (λ x. x ∷ drop (p.at + 1) ws) (ap (λ o. word_of v o) (sym (ap first d) ∙ e))))
+      | inr l ↦ absurd (none_some (first (rest p)) (ap first (drop_all p.at ws l)) v e)
+    ]
 
 pub here_then : {p q : Cursor} {v : Word} → Here p v → Passed p q → rest p ≡ v ∷ rest q
 here_then {v = v} h k = h.1 ∙ ap (λ ws. v ∷ ws) (sym (rest_after k))

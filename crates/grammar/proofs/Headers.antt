@@ -1,5 +1,5 @@
 -- The exits of the functions that read parameters, operations and listings.
-use Rattle.std.proofs.Common.{◌≡◌, ℕ, ◌+◌, ◌<◌, ◌≤◌, true, false, List, [], ◌∷◌, map, length, get_or, drop, Ok, Err, vec_items, Result, Vec, sym, refl, ap, ◌∙◌, subst, subst₂, arith}
+use Rattle.std.proofs.Common.{◌≡◌, ℕ, ◌+◌, ◌<◌, ◌≤◌, true, false, List, [], ◌∷◌, map, length, get_or, drop, Ok, Err, vec_items, vec_capacity, Result, Vec, sym, refl, ap, ◌∙◌, subst, subst₂, arith}
 use Rattle.std.specs.declared.alloc.Global.{Global}
 use Rattle.std.proofs.lemmas.List.{drop_all}
 use Rattle.words.specs.declared.token.Kind.TheVariants.{Close, Colon, Comma, Op, Run}
@@ -189,3 +189,23 @@ listing_done p q r t u a n e h k d =
       (record { operations = []; run_place = a; main = k.2.0 }, running a d h.2 k.2.1, (no_operations _ _ (sym (same_size k.3.operations)), refl, k.2.2)),
       tt,
     )
+
+-- the tree with that table of nodes
+abbrev pub with_nodes : Tree → Vec Node Global → Tree
+with_nodes t w = record { nodes = w; parts = t.parts; parameters = t.parameters; operations = t.operations; run = t.run; term = t.term }
+
+pub pushed : (t : Tree) (v w : Vec Node Global) (x : Node) → length (vec_items w) ≡ length (vec_items v) + 1 → vec_capacity v ≤ vec_capacity w → ((k : ℕ) (d : Node) → k < length (vec_items v) → get_or (vec_items w) k d ≡ get_or (vec_items v) k d) → ((d : Node) → get_or (vec_items w) (length (vec_items v)) d ≡ x) → Added x (with_nodes t v) (with_nodes t w) (Ok (length (vec_items v)))
+pushed t v w x l c k h = (
+  record {
+    nodes = record { kept = record { longer = omega (arith, l); same = k }; few = omega (arith, l); room = c };
+    parts = grew_none t.parts 0 1 (omega arith);
+    parameters = grew_none t.parameters 0 1 (omega arith);
+    operations = grew_none t.operations 0 1 (omega arith);
+  },
+  refl,
+  l,
+  (omega (arith, l), h),
+  refl,
+  refl,
+  refl,
+)

@@ -1,4 +1,4 @@
--- The words at hand: what the kind of a word says.
+-- The words from the current one on: what the kind of the first one says.
 use Rattle.std.proofs.Common.{rules, ◌≡◌, Bool, eqb, true, false, List, [], ◌∷◌, Some, None, refl, ap, ◌∙◌}
 use Rattle.words.specs.Kinds.{kind_number, NumbersDecide}
 use Rattle.words.specs.declared.token.Kind.{Kind}

@@ -58,6 +58,11 @@ pub record Room (t : Tree) (i j : ℕ) : Type 0 where
   pub parameters : Spare t.parameters i j
   pub operations : Spare t.operations i j
 
+-- the first word, or none
+abbrev pub first : List Word → Option Word
+first [] = None
+first (w ∷ ws) = Some w
+
 -- the place of the first word, or n where there is none
 abbrev pub place_or : ℕ → List Word → ℕ
 place_or n [] = n

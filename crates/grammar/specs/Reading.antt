@@ -29,7 +29,7 @@ use Rattle.grammar.specs.declared.parse.Parser.{Parser}
 use Rattle.grammar.specs.Arena.{At, node, Spells, identifiers, basic_of, constant_of, NamesAt, TypeAt, TypesAt, Stands, PartsAt, ParametersAt}
 use Rattle.grammar.specs.Parsing.{place_or, nodes_of, parts_of, parameters_of, operations_of, Grew, Grows, Spare, Room, OperationsFrom, StandsFor}
 
--- the words from the one at hand on
+-- the words from the current one on
 abbrev pub rest : Cursor → List Word
 rest p = drop p.at p.words.now
 
@@ -68,7 +68,7 @@ pub record Quiet (t u : Tree) : Type 0 where
 abbrev pub SameOperations : Tree → Tree → Type 0
 SameOperations t u = u.operations ≡ t.operations
 
--- the word at hand was passed
+-- the current word was passed
 pub record Passed (p q : Cursor) : Type 0 where
   pub words : q.words.now ≡ p.words.now
   pub at : q.at ≡ p.at + 1
@@ -81,7 +81,7 @@ abbrev pub Expected : Kind → Cursor → Cursor → Result (Unit {0}) Stop → 
 Expected k p q (Ok _) = Passed p q × Way (this k) p.words.now p.at [] q.at × IsWord k (rest p) (rest q)
 Expected k p q (Err e) = Misses (this k) p e
 
--- the word at hand is that basic type, or the type there is none
+-- the current word is that basic type, or the type there is none
 abbrev pub BasicFound : Cursor → Option basics.Basic → Type 0
 BasicFound p (Some b) = (p.at < length p.words.now) × Way m.a_type p.words.now p.at [] (p.at + 1) × g.Writes (rest p) (s.basic (place_or 0 (rest p)) (basic_of b)) (drop (p.at + 1) p.words.now)
 BasicFound p None = Way m.a_type p.words.now p.at (this Open ∷ m.a_type ∷ this Comma ∷ m.types ∷ []) p.at
@@ -120,19 +120,19 @@ keyword binders.TheVariants.Let = Let
 keyword binders.TheVariants.Mut = Mut
 keyword binders.TheVariants.Set = Set
 
--- the word w is at hand
+-- the current word is w
 abbrev pub Here : Cursor → Word → Type 0
 Here p w = (p.at < length p.words.now) × (rest p ≡ w ∷ drop (p.at + 1) p.words.now)
 
--- that name is the word at hand
+-- that name is the current word
 abbrev pub NameHere : Cursor → names.Name → Type 0
 NameHere p n = (x : Text) × (i : ℕ) × Here p (Name x i) × Spells n (identifier x i)
 
--- that gate is the word at hand, which has that place
+-- that gate is the current word, which has that place
 abbrev pub GateHere : Cursor → ℕ → gates.Gate → Type 0
 GateHere p i o = (x : Text) × Here p (Gate x i o)
 
--- that constant is the word at hand, which has that place
+-- that constant is the current word, which has that place
 abbrev pub ConstantHere : Cursor → ℕ → constants.Constant → Type 0
 ConstantHere p i c = (p.at < length p.words.now) × Way m.plain p.words.now p.at [] (p.at + 1) × g.Plain (rest p) (s.constant i (constant_of c)) (drop (p.at + 1) p.words.now)
 

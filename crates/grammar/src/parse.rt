@@ -17,6 +17,7 @@ pub enum GrammarFault {
 }
 
 // Why the descent stopped: at a word that does not fit, or for want of memory.
+// By word and not by place: what the readers ensure is said of words.
 #[derive(Clone, Copy)]
 enum Stop {
     At(usize),
@@ -60,7 +61,8 @@ struct Signature {
     names: Range,
 }
 
-// The words, and which is at hand: the next one to read. It never passes their end.
+// The words, and the place of the current one: the next to read. It never passes their end.
+// As the reader of bytes, over words.
 #[derive(Drop)]
 struct Cursor<'a, 'b> {
     words: &'a [Word<'b>],
@@ -79,14 +81,21 @@ impl<'a, 'b> Cursor<'a, 'b> {
         Cursor { words, at: 0 }
     }
 
-    // Is the word at hand of that kind?
+    // The current word, if there is one.
+    fn word(&self) -> Option<Word<'b>>
+        ensures { result ≡ parsing.first (reading.rest self.now) }
+    {
+        self.words.get(self.at).copied()
+    }
+
+    // Is the current word of that kind?
     fn holds(&self, kind: Kind) -> bool
         ensures { result ≡ heads kind (reading.rest self.now) }
     {
-        matches!(self.words.get(self.at), Some(Word::Fixed { kind: found, .. }) if *found == kind)
+        matches!(self.word(), Some(Word::Fixed { kind: found, .. }) if found == kind)
     }
 
-    // Passes the word at hand.
+    // Passes the current word.
     fn advance(&mut self)
         requires within { self.old.at < length self.old.words.now }
         ensures { reading.Passed self.old self.new }
@@ -109,11 +118,11 @@ impl<'a, 'b> Cursor<'a, 'b> {
     fn expect_name(&mut self) -> Result<Name, Stop>
         ensures { reading.NameFound self.old self.new result }
     {
-        let Some(Word::Name { text, place }) = self.words.get(self.at) else {
+        let Some(Word::Name { text, place }) = self.word() else {
             return Err(Stop::At(self.at));
         };
         let found = Name {
-            place: *place,
+            place,
             span: text.len(),
         };
         self.advance();
@@ -128,29 +137,38 @@ struct Parser<'a, 'b, 't> {
     tree: &'t mut Tree,
 }
 
-impl Parser<'_, '_, '_> {
+impl<'b> Parser<'_, 'b, '_> {
     ghost use Rattle.words.specs.declared.token.Kind.TheVariants.{Using, If, Meas, Open, Op};
     ghost use Rattle.syntax.specs.Machine.{heads};
     ghost use Rattle.grammar.specs.Reading as reading;
 
-    // Is the word at hand of that kind? The check has no rule for a look at the cursor alone from a method that takes `&mut self`.
+    // The current word, if there is one.
+    // From a method that takes &mut self, a look at a field that holds a borrow gets no proof.
+    fn word(&self) -> Option<Word<'b>>
+        ensures { result ≡ parsing.first (reading.rest self.now.cursor) }
+    {
+        self.cursor.word()
+    }
+
+    // Is the current word of that kind?
     fn holds(&self, kind: Kind) -> bool
         ensures { result ≡ heads kind (reading.rest self.now.cursor) }
     {
         self.cursor.holds(kind)
     }
 
-    // The kind of the word at hand, if it is a mark or a reserved word.
+    // The kind of the current word, if it is a mark or a reserved word.
     fn kind(&self) -> Option<Kind>
         ensures { result ≡ parsing.kind_of (reading.rest self.now.cursor) }
     {
-        match self.cursor.words.get(self.cursor.at) {
-            Some(Word::Fixed { kind, .. }) => Some(*kind),
+        match self.cursor.word() {
+            Some(Word::Fixed { kind, .. }) => Some(kind),
             _ => None,
         }
     }
 
-    // The place of the word at hand; at the end 0, which no caller uses.
+    // The place of the current word.
+    // 0 at the end, which no node gets: a caller that begins at no word stops there.
     fn place(&self) -> usize
         ensures { result ≡ parsing.place_or 0 (reading.rest self.now.cursor) }
     {
@@ -168,6 +186,7 @@ impl Parser<'_, '_, '_> {
 
     // {, name} )
     // More names, terms, types and parameters are read alike; what they ensure differs, and each is a rule of the grammar, so they are no one generic function.
+    // A recursion and no loop, as more_parameters and listing: each ensures a rule of the grammar, which is a recursion.
     fn more_names(&mut self) -> Result<(), Stop>
         ensures { reading.Parses reading.MoreNamesRead self.old self.new result }
     {
@@ -284,10 +303,10 @@ impl Parser<'_, '_, '_> {
     fn plain_term(&mut self) -> Result<usize, Stop>
         ensures { reading.Parses reading.PlainRead self.old self.new result }
     {
-        let Some(word) = self.cursor.words.get(self.cursor.at) else {
+        let Some(word) = self.word() else {
             return Err(Stop::At(self.cursor.at));
         };
-        match *word {
+        match word {
             Word::Name { text, place } => self.name_or_call(Name {
                 place,
                 span: text.len(),
@@ -304,7 +323,7 @@ impl Parser<'_, '_, '_> {
         }
     }
 
-    // The node of a constant that is the word at hand.
+    // The node of a constant that is the current word.
     fn constant(&mut self, place: usize, constant: Constant) -> Result<usize, Stop>
         requires begins { reading.ConstantHere self.old.cursor place constant }
         ensures { reading.Parses reading.PlainRead self.old self.new result }
@@ -326,8 +345,8 @@ impl Parser<'_, '_, '_> {
         self.cursor.advance();
         if self.holds(Kind::Close) {
             self.cursor.advance();
-            let none = self.tree.parts.len();
-            return self.tree.add_built(found.place, Form::Call(found), none);
+            let first = self.tree.parts.len();
+            return self.tree.add_built(found.place, Form::Call(found), first);
         }
         let first = self.terms()?;
         self.tree.add_built(found.place, Form::Call(found), first)
@@ -529,7 +548,7 @@ impl Parser<'_, '_, '_> {
         self.cursor.advance();
         let name = self.cursor.expect_name()?;
         self.cursor.expect(Kind::Open)?;
-        let given = self.signature()?;
+        let signature = self.signature()?;
         self.cursor.expect(Kind::Colon)?;
         let result = self.written_type()?;
         self.cursor.expect(Kind::LeftBrace)?;
@@ -538,8 +557,8 @@ impl Parser<'_, '_, '_> {
         self.tree.add_operation(Operation {
             place,
             name,
-            parameters: given.parameters,
-            names: given.names,
+            parameters: signature.parameters,
+            names: signature.names,
             result,
             body,
         })
@@ -605,10 +624,11 @@ impl Tree {
         requires within { first ≤ length (parsing.parameters_of self.old) }
         ensures { reading.ParametersNamed first self.old self.new result }
     {
-        // By number: a loop over the parameters would borrow the tree that it adds to.
-        for at in first..self.parameters.len() {
-            let found = self.parameters[at].name;
-            self.add_node(found.place, Construct::Named(found))?;
+        for parameter in &self.parameters.as_slice()[first..] {
+            self.nodes.push(Node {
+                place: parameter.name.place,
+                construct: Construct::Named(parameter.name),
+            })?;
         }
         Ok(())
     }
@@ -628,6 +648,7 @@ pub fn parse(words: &[Word<'_>], length: usize, tree: &mut Tree) -> Result<(), G
 {
     let cursor = Cursor::new(words);
     let mut parser = Parser { cursor, tree };
+    // No map_err: the proof did not close, as its clauses gave no fact of the closure, also where that had a clause of its own.
     if let Err(stop) = parser.listing() {
         return Err(stop.fault(words, length));
     }

@@ -77,9 +77,11 @@ pub enum Binder {
     Set,
 }
 
+// A type of its own beside a program's nodes: names here, entries there, and just three of the cases have the same fields in both.
 #[derive(Clone, Copy)]
 pub enum Construct {
-    // no construct: what a look gives past the end, and where a construct would not stand after the nodes that it names; a case here, since who looks matches on the construct at once
+    // no construct: what a look gives past the end, and where a construct would not stand after the nodes that it names
+    // A case, and no Option: each caller matches on the construct at once.
     Missing,
     // a written type; its parts are a range of the table of parts
     BasicType(Basic),
@@ -125,6 +127,7 @@ pub struct Parameter {
 }
 
 // The parameters are a range of the table of parameters, their names a range of nodes.
+// Two ranges: a call gives its arguments to entries, which are nodes.
 #[derive(Clone, Copy)]
 pub struct Operation {
     pub place: usize,
@@ -135,9 +138,11 @@ pub struct Operation {
     pub body: usize,
 }
 
-// The node of the type qbit, and the range of parts that makes a pair of it.
+// The node of the type qbit.
+// In the table from the start: a gate on two gives a pair of it, also where the listing writes none.
 pub const QBIT: usize = 0;
 
+// The end of the range of parts that makes a pair of it, which begins at 0.
 pub const PAIR_END: usize = 2;
 
 // Nodes by their number, and not boxes: equality of types goes by recursion over a table with an entry for each node, and all memory of a load is asked for first.
@@ -172,6 +177,7 @@ impl Tree {
             parts,
             parameters,
             operations,
+            // Place and node 0 until the listing is read: the room is made before.
             run: 0,
             term: 0,
         })
@@ -249,6 +255,7 @@ impl Tree {
 }
 
 // Do the parts that a construct names by their nodes stand before it?
+// Asked at each look, and no invariant: the clauses of the parser say it of the nodes that a term is made of, not of every node of a tree.
 fn falls(at: usize, construct: Construct) -> bool
     ensures falls { result ≡ true → Falls at construct }
     ensures exact { Falls at construct → result ≡ true }

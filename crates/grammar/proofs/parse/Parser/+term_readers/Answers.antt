@@ -1,4 +1,4 @@
-use Rattle.std.proofs.Common.{◌+◌, [], ◌∷◌, sym, refl, ap, ◌∙◌, arith}
+use Rattle.std.proofs.Common.{rules, ◌+◌, [], ◌∷◌, sym, refl, ap, ◌∙◌, arith, Some}
 use Rattle.words.specs.declared.token.Kind.TheVariants.{Open, Close, Comma, Using, In, If, Then, Else, Meas}
 use Rattle.words.specs.declared.token.Word.TheVariants as word
 use Rattle.syntax.specs.Trees as s
@@ -158,7 +158,7 @@ pub name_or_call-returns-then-holds : goal.name_or_call-returns-then-holds
 name_or_call-returns-then-holds t c =
     let p = c.args.self.now.cursor in (
       finish g.Plain at.Stands _ c.add_built.result (passes [] (passes (m.arguments ∷ []) (takes p c.args.self.now.tree.now (w.word p.words.now m.plain p.at (word.Name c.requires.begins.0 c.requires.begins.1) (m.after_name ∷ []) c.requires.begins.2.0 c.requires.begins.2.1 refl) c.advance.ensures) (w.kind_word c.advance.new.self.words.now m.after_name c.advance.new.self.at Open (m.arguments ∷ []) (sym c.if-not-holds.ensures) (λ x i. refl)) c.advance-2.ensures) (w.kind_word c.advance-2.new.self.words.now m.arguments c.advance-2.new.self.at Close [] (sym c.if-holds.ensures) (λ x i. refl)) c.advance-then-holds.ensures) (omega arith) (quiet_all c.args.self.now.tree.now) c.add_built.ensures
-          (λ k q h o. (_, productions.calling (x.here_then c.requires.begins.2 c.advance.ensures) (is_word _ (sym c.if-not-holds.ensures) c.advance-2.ensures) (productions.none_given (is_word _ (sym c.if-holds.ensures) c.advance-then-holds.ensures)), at.call_at h c.requires.begins.3 (x.parts_to q (still_parts o (x.no_parts _ _ (c.len-none.ensures ∙ sized c.args.self.now.tree.now.parts)))))),
+          (λ k q h o. (_, productions.calling (x.here_then c.requires.begins.2 c.advance.ensures) (is_word _ (sym c.if-not-holds.ensures) c.advance-2.ensures) (productions.none_given (is_word _ (sym c.if-holds.ensures) c.advance-then-holds.ensures)), at.call_at h c.requires.begins.3 (x.parts_to q (still_parts o (x.no_parts _ _ (c.len-first.ensures ∙ sized c.args.self.now.tree.now.parts)))))),
       refl,
     )
 
@@ -258,26 +258,36 @@ more_terms-returns t c =
       refl,
     )
 
+pub plain_term-name_or_call-requires : goal.plain_term-name_or_call-requires
+plain_term-name_or_call-requires t c =
+    let h = x.here c.args.self.now.cursor (sym c.word.ensures ∙ c.in-Some.is ∙ ap Some c.in-Name.is) in
+    (search (rules, h.0), (c.in-Name.text, c.in-Name.place, h, (refl, refl)))
+
+pub plain_term-gate_term-requires : goal.plain_term-gate_term-requires
+plain_term-gate_term-requires t c =
+    let h = x.here c.args.self.now.cursor (sym c.word.ensures ∙ c.in-Some.is ∙ ap Some c.in-Gate.is) in
+    (search (rules, h.0), (c.in-Gate.text, h))
+
 pub plain_term-constant-requires : goal.plain_term-constant-requires
 plain_term-constant-requires t c =
     let p = c.args.self.now.cursor in
-    let l = c.in-Some.ensures.lookup in
-    let d = w.word_here p.words.now p.at _ _ l.3.0 (sym l.1 ∙ c.in-Number.is) in
-    record { begins = (l.3.0, w.word p.words.now m.plain p.at _ [] l.3.0 d refl, productions.number_there d) }
+    let l = x.here p (sym c.word.ensures ∙ c.in-Some.is ∙ ap Some (c.in-Number.is)) in
+    let d = l.1 in
+    record { begins = (l.0, w.word p.words.now m.plain p.at _ [] l.0 d refl, productions.number_there d) }
 
 pub plain_term-constant-requires-in-Zero : goal.plain_term-constant-requires-in-Zero
 plain_term-constant-requires-in-Zero t c =
     let p = c.args.self.now.cursor in
-    let l = c.in-Some.ensures.lookup in
-    let d = w.word_here p.words.now p.at _ _ l.3.0 (sym l.1 ∙ c.in-Fixed.is ∙ ap (word.Fixed c.in-Fixed.text c.in-Fixed.place) c.in-Zero.is) in
-    record { begins = (l.3.0, w.word p.words.now m.plain p.at _ [] l.3.0 d refl, productions.zero_there d) }
+    let l = x.here p (sym c.word.ensures ∙ c.in-Some.is ∙ ap Some (c.in-Fixed.is ∙ ap (word.Fixed c.in-Fixed.text c.in-Fixed.place) c.in-Zero.is)) in
+    let d = l.1 in
+    record { begins = (l.0, w.word p.words.now m.plain p.at _ [] l.0 d refl, productions.zero_there d) }
 
 pub plain_term-constant-requires-in-One : goal.plain_term-constant-requires-in-One
 plain_term-constant-requires-in-One t c =
     let p = c.args.self.now.cursor in
-    let l = c.in-Some.ensures.lookup in
-    let d = w.word_here p.words.now p.at _ _ l.3.0 (sym l.1 ∙ c.in-Fixed.is ∙ ap (word.Fixed c.in-Fixed.text c.in-Fixed.place) c.in-One.is) in
-    record { begins = (l.3.0, w.word p.words.now m.plain p.at _ [] l.3.0 d refl, productions.one_there d) }
+    let l = x.here p (sym c.word.ensures ∙ c.in-Some.is ∙ ap Some (c.in-Fixed.is ∙ ap (word.Fixed c.in-Fixed.text c.in-Fixed.place) c.in-One.is)) in
+    let d = l.1 in
+    record { begins = (l.0, w.word p.words.now m.plain p.at _ [] l.0 d refl, productions.one_there d) }
 
 pub term-returns-in_default : goal.term-returns-in_default
 term-returns-in_default t c =
