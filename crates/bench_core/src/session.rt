@@ -21,6 +21,7 @@ fn run_listing(heap: Global, bits: &[u8], listing: &[u8]) -> Result<Vec<u8>, Fau
     let mut bench = Bench::open(Script::new(bits, CAPACITY));
     let need = bench.load(heap, listing)?;
     bench.advance(need.steps)?;
+    // A buffer, since report writes to one.
     let mut page = [0u8; ROOM];
     let length = bench.report(&mut page)?;
     Ok(Vec::from_slice(heap, &page[..length])?)

@@ -28,6 +28,7 @@ impl State {
     fn gathered(&self, base: usize) -> Result<Value, Halt> {
         let parts = self.values.as_slice().get(base..).ok_or(Halt::Stuck)?;
         let mut whole = Value::empty();
+        // At most 15, so a u8.
         whole.push(Item::Tuple(parts.len().min(ITEMS) as u8));
         for part in parts {
             whole.append(part);

@@ -9,6 +9,7 @@ use programs::program::{Act, Node, Program};
 use programs::table::add;
 
 // The part of a node that runs first: its place in the table of parts, if it stands there, and its node.
+// No frame: a frame's node is the one that waits.
 #[derive(Clone, Copy)]
 struct Inner {
     part: Option<usize>,
