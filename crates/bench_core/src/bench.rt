@@ -21,7 +21,7 @@ use words::token::Word;
 const LONGEST: usize = 2048;
 
 // The most nodes of a tree: one for each word, and the type qbit.
-const MOST_NODES: usize = 2049;
+const MOST_NODES: usize = LONGEST + 1;
 
 // All memory that a load asks for.
 #[derive(Drop)]
@@ -131,6 +131,7 @@ impl<M: Machine + Drop> Bench<M> {
     }
 
     // Writes the report of an ended run from the buffer's front; answers its length.
+    // To the caller's buffer: a report asks for no memory.
     pub fn report(&self, buffer: &mut [u8]) -> Result<usize, Fault>
         ensures { Fronted buffer.old buffer.new result }
     {

@@ -73,6 +73,7 @@ impl Report<'_> {
     }
 
     // So many parts of the value, of which the first begins at `first`.
+    // Each part begins where the one before ends.
     #[cycle(value_text)]
     fn push_values(&mut self, first: usize, count: usize) {
         let mut from = first;

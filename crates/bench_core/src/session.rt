@@ -4,12 +4,10 @@ use faults::fault::Fault;
 use machine::script::Script;
 use std::alloc::{AllocError, Global};
 use texts::refused::refused_line;
+use texts::text::ROOM;
 
 // The capacity of the program's machine.
 const CAPACITY: u8 = 64;
-
-// More than the bytes of any report.
-const PAGE: usize = 256;
 
 // The line of bits as a script: 1 for the byte "1", 0 for others.
 fn script_bits(heap: Global, line: &[u8]) -> Result<Vec<u8>, AllocError> {
@@ -21,11 +19,18 @@ fn script_bits(heap: Global, line: &[u8]) -> Result<Vec<u8>, AllocError> {
 // Loads the listing, runs it to its end, and answers the report.
 fn run_listing(heap: Global, bits: &[u8], listing: &[u8]) -> Result<Vec<u8>, Fault> {
     let mut bench = Bench::open(Script::new(bits, CAPACITY));
-    bench.load(heap, listing)?;
-    bench.advance(u32::MAX)?;
-    let mut page = [0u8; PAGE];
+    let need = bench.load(heap, listing)?;
+    bench.advance(need.steps)?;
+    // A buffer, since report writes to one.
+    let mut page = [0u8; ROOM];
     let length = bench.report(&mut page)?;
     Ok(Vec::from_slice(heap, &page[..length])?)
+}
+
+// The refused line of a fault; want of memory has none.
+fn refused(heap: Global, fault: Fault) -> Result<Vec<u8>, AllocError> {
+    let diagnosis = fault.diagnosis().ok_or(AllocError)?;
+    Vec::from_slice(heap, refused_line(diagnosis).bytes())
 }
 
 // The report, or the refused line, for a line of bits and then a listing, which is empty if no line feed comes.
@@ -33,11 +38,5 @@ pub fn respond(heap: Global, input: &[u8]) -> Result<Vec<u8>, AllocError> {
     let mut pieces = input.splitn(2, |byte| *byte == b'\n');
     let bits = script_bits(heap, pieces.next().unwrap_or(&[]))?;
     let listing = pieces.next().unwrap_or(&[]);
-    match run_listing(heap, bits.as_slice(), listing) {
-        Ok(report) => Ok(report),
-        Err(fault) => {
-            let diagnosis = fault.diagnosis().ok_or(AllocError)?;
-            Vec::from_slice(heap, refused_line(diagnosis).bytes())
-        }
-    }
+    run_listing(heap, bits.as_slice(), listing).or_else(|fault| refused(heap, fault))
 }

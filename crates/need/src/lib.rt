@@ -78,6 +78,7 @@ impl Cost {
 
 // A step that prepares so many qbits.
 fn prepare(qbits: usize) -> Cost {
+    // No From of std takes a usize to a u64.
     let gain = qbits as u64;
     Cost {
         gain,
@@ -87,6 +88,7 @@ fn prepare(qbits: usize) -> Cost {
 }
 
 // The costs of the nodes, in their order.
+// A table by the nodes' numbers: the costs of parts are looked up.
 #[derive(Drop)]
 pub struct Costs {
     table: Vec<Cost>,
@@ -100,6 +102,8 @@ impl Costs {
         })
     }
 
+    // The cost of the node at `at`.
+    // No Option: each caller would put the free cost for none.
     fn cost(&self, at: usize) -> Cost {
         self.table.get(at).copied().unwrap_or(FREE)
     }
@@ -119,8 +123,8 @@ impl Costs {
         }
     }
 
-    fn node_cost(&self, program: &Program, at: usize) -> Cost {
-        match program.term(at) {
+    fn node_cost(&self, program: &Program, node: Node) -> Cost {
+        match node {
             Node::Place(_) | Node::Target(_) => FREE,
             Node::Constant(_) | Node::Use(_) => STEP,
             Node::Built { act, parts } => self.built(program, act, parts),
@@ -136,8 +140,8 @@ impl Costs {
 
 // The need of a program on a machine of this capacity.
 pub fn need_of(program: &Program, capacity: u8, mut costs: Costs) -> Result<Need, NeedFault> {
-    for at in 0..program.size() {
-        let cost = costs.node_cost(program, at);
+    for placed in program.nodes() {
+        let cost = costs.node_cost(program, placed.node);
         costs.table.push(cost)?;
     }
     let cost = costs.cost(program.run_term());
@@ -148,6 +152,7 @@ pub fn need_of(program: &Program, capacity: u8, mut costs: Costs) -> Result<Need
     if cost.peak > u64::from(capacity) {
         return Err(NeedFault::Peak { place });
     }
+    // Within the limits asked above.
     Ok(Need {
         steps: cost.steps as u32,
         peak: cost.peak as u32,

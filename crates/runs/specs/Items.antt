@@ -1,5 +1,5 @@
 -- The items of a value: a leaf, or a tuple followed by its parts.
-use Rattle.std.specs.Prelude.{ℕ, zero, suc, ◌+◌, ◌<◌, Bool, false, List, [], ◌∷◌, take, Some, None, Option}
+use Rattle.std.specs.Prelude.{ℕ, zero, suc, ◌+◌, ◌<◌, Bool, List, [], ◌∷◌, take, Some, None, Option}
 use Rattle.programs.specs.declared.program.Leaf.TheVariants as leaf
 use Rattle.runs.specs.declared.value.Item.{Item}
 use Rattle.runs.specs.declared.value.Item.TheVariants.{Leaf, Tuple}
@@ -31,10 +31,10 @@ handle_in (Leaf (leaf.Int n)) = None
 handle_in (Leaf (leaf.Handle h)) = Some h
 handle_in (Tuple n) = None
 
--- the bit that an item is, zero where it is none
-abbrev pub one_in : Item → Bool
-one_in (Leaf leaf.Unit) = false
-one_in (Leaf (leaf.Bit b)) = b
-one_in (Leaf (leaf.Int n)) = false
-one_in (Leaf (leaf.Handle h)) = false
-one_in (Tuple n) = false
+-- the bit that an item is
+abbrev pub bit_in : Item → Option Bool
+bit_in (Leaf leaf.Unit) = None
+bit_in (Leaf (leaf.Bit b)) = Some b
+bit_in (Leaf (leaf.Int n)) = None
+bit_in (Leaf (leaf.Handle h)) = None
+bit_in (Tuple n) = None

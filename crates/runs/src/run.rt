@@ -15,6 +15,7 @@ pub struct Run {
 }
 
 // What an advance answers.
+// Both, as the answer of an advance is documented.
 #[derive(Clone, Copy)]
 pub struct Done {
     pub steps: u32,

@@ -48,6 +48,7 @@ impl From<Refusal> for Halt {
 #[derive(Drop)]
 pub struct State {
     focus: Focus,
+    // Two stacks: a construct takes its finished parts from the end as one slice.
     frames: Vec<Frame>,
     // finished parts of the waiting nodes, the latest last
     values: Vec<Value>,
@@ -61,6 +62,7 @@ impl State {
         let frames = Vec::with_capacity(heap, size)?;
         let values = Vec::with_capacity(heap, size)?;
         let table = vec![in heap; Value::empty(); size]?;
+        // Empty until bound: all memory of a run is asked for before it.
         Ok(State {
             focus: Focus::Entering(0),
             frames,
@@ -104,15 +106,6 @@ impl State {
         *entry = *value;
         Ok(())
     }
-}
-
-// One more item, where there is room.
-fn push_within_capacity<T: Copy>(items: &mut Vec<T>, item: T) -> Result<(), Halt> {
-    if items.len() == items.capacity() {
-        return Err(Halt::Stuck);
-    }
-    items.push_reserved(item);
-    Ok(())
 }
 
 // What a step works on: the program, the machine that it orders, and the state.

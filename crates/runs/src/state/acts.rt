@@ -14,20 +14,21 @@ fn entry_of(program: &Program, at: usize) -> usize {
     }
 }
 
+// The handle that a finished part is.
+fn handle_of(value: &Value) -> Result<u8, Halt> {
+    value.handle().ok_or(Halt::Stuck)
+}
+
 impl State {
     fn value_at(&self, at: usize) -> Result<&Value, Halt> {
         self.values.get(at).ok_or(Halt::Stuck)
-    }
-
-    // The handle that the part at `at` is.
-    fn handle_at(&self, at: usize) -> Result<u8, Halt> {
-        self.value_at(at)?.handle().ok_or(Halt::Stuck)
     }
 
     // The tuple of the latest finished parts.
     fn gathered(&self, base: usize) -> Result<Value, Halt> {
         let parts = self.values.as_slice().get(base..).ok_or(Halt::Stuck)?;
         let mut whole = Value::empty();
+        // At most 15, so a u8.
         whole.push(Item::Tuple(parts.len().min(ITEMS) as u8));
         for part in parts {
             whole.append(part);
@@ -59,30 +60,35 @@ impl<M: Machine> Stepper<'_, M> {
     }
 
     fn measure(&mut self, base: usize) -> Result<(), Halt> {
-        let handle = self.state.handle_at(base)?;
+        let handle = handle_of(self.state.value_at(base)?)?;
         let bit = self.machine.measure(handle)?;
         self.state.finish(base, Value::from(Leaf::Bit(bit)));
         Ok(())
     }
 
+    // By the finished parts: a gate on one, or a gate on two, which leaves their pair.
     fn apply(&mut self, base: usize, gate: Gate) -> Result<(), Halt> {
-        let first = self.state.handle_at(base)?;
-        if gate.width() == 1 {
-            self.machine.gate(gate, &[first])?;
-            self.state.finish(base, Value::from(Leaf::Handle(first)));
-            return Ok(());
-        }
-        let second = self.state.handle_at(base.saturating_add(1))?;
-        self.machine.gate(gate, &[first, second])?;
-        let pair = self.state.gathered(base)?;
-        self.state.finish(base, pair);
+        let parts = self.state.values.as_slice().get(base..).ok_or(Halt::Stuck)?;
+        let whole = match parts {
+            [one] => {
+                self.machine.gate(gate, &[handle_of(one)?])?;
+                *one
+            }
+            [first, second] => {
+                let handles = [handle_of(first)?, handle_of(second)?];
+                self.machine.gate(gate, &handles)?;
+                self.state.gathered(base)?
+            }
+            _ => return Err(Halt::Stuck),
+        };
+        self.state.finish(base, whole);
         Ok(())
     }
 
     // The arguments become the parameters' values, and the body comes next.
     fn call(&mut self, base: usize, f: usize) -> Result<(), Halt> {
         let root = self.program.root(f);
-        for (at, from) in root.names.numbers().zip(base..self.state.values.len()) {
+        for (at, from) in root.names.numbers().zip(base..) {
             let value = *self.state.value_at(from)?;
             self.state.set(at, &value)?;
         }
@@ -93,9 +99,10 @@ impl<M: Machine> Stepper<'_, M> {
 
     // The value of a right side goes to the pattern's names, whole or part by part.
     pub(super) fn bind(&mut self, names: Range, value: &Value) -> Result<(), Halt> {
-        if names.len() == 1 {
-            return self.state.set(entry_of(self.program, names.first), value);
+        if let Some(name) = names.single() {
+            return self.state.set(entry_of(self.program, name), value);
         }
+        // Each part begins where the one before ends.
         let mut first = 1usize;
         for at in names.numbers() {
             let end = value.end(first);

@@ -1,13 +1,15 @@
 // One step of a run.
 ghost use Rattle.std.specs.Prelude.{◌<◌, IfSome};
 
-use super::{Focus, Frame, Halt, Stepper, push_within_capacity};
+use super::{Focus, Frame, Halt, Stepper};
 use crate::value::Value;
 use grammar::tree::Range;
 use machine::machine::Machine;
 use programs::program::{Act, Node, Program};
+use programs::table::add;
 
 // The part of a node that runs first: its place in the table of parts, if it stands there, and its node.
+// No frame: a frame's node is the one that waits.
 #[derive(Clone, Copy)]
 struct Inner {
     part: Option<usize>,
@@ -42,7 +44,7 @@ impl<M: Machine> Stepper<'_, M> {
         }
     }
 
-    // Goes down to the part that steps next.
+    // Finds the part that steps next.
     fn enter(&mut self, start: usize) -> Result<(), Halt> {
         let mut at = start;
         while let Some(inner) = inner_of(self.program, at) {
@@ -54,7 +56,8 @@ impl<M: Machine> Stepper<'_, M> {
 
     // The node waits for one of its parts.
     fn wait(&mut self, node: usize, part: Option<usize>) -> Result<(), Halt> {
-        push_within_capacity(&mut self.state.frames, Frame { node, part })
+        add(&mut self.state.frames, Frame { node, part }).map_err(|_| Halt::Stuck)?;
+        Ok(())
     }
 
     // A term with no part that runs before it.
@@ -81,7 +84,8 @@ impl<M: Machine> Stepper<'_, M> {
                 self.state.focus = Focus::Entering(body);
             }
             Node::If { yes, other, .. } => {
-                self.state.focus = Focus::Entering(if value.is_one() { yes } else { other });
+                let bit = value.bit().ok_or(Halt::Stuck)?;
+                self.state.focus = Focus::Entering(if bit { yes } else { other });
             }
             _ => return Err(Halt::Stuck),
         }
@@ -96,7 +100,7 @@ impl<M: Machine> Stepper<'_, M> {
         parts: Range,
         value: Value,
     ) -> Result<(), Halt> {
-        push_within_capacity(&mut self.state.values, value)?;
+        add(&mut self.state.values, value).map_err(|_| Halt::Stuck)?;
         let part = frame.part.ok_or(Halt::Stuck)?;
         if part <= parts.first {
             return self.act(act, parts);

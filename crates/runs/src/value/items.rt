@@ -1,6 +1,6 @@
 // The items of a value.
 ghost use Rattle.std.specs.Prelude.{◌≡◌, ◌+◌, ◌-◌, ◌<◌, ◌≤◌, [], ◌∷◌, ◌++◌, length, drop, slice_index_or, slice_range};
-ghost use Rattle.runs.specs.Items.{roomy, passed, handle_in, one_in, unit_item, Inner};
+ghost use Rattle.runs.specs.Items.{roomy, passed, handle_in, bit_in, unit_item, Inner};
 ghost use Rattle.runs.specs.Values.{held};
 ghost use Rattle.runs.specs.declared.value.Item.TheVariants.{Leaf};
 
@@ -55,7 +55,8 @@ impl Value {
         &self.items[..self.count]
     }
 
-    // The item at `at`, or the leaf unit where there is none. No `Option`: a value is asked only for items that it holds.
+    // The item at `at`, or the leaf unit where there is none.
+    // No Option: a report would have an arm that never runs.
     pub fn item(&self, at: usize) -> Item
         ensures item { result ≡ slice_index_or (held self.now) at unit_item }
         ensures inner { Inner at self.now.count result }
@@ -120,13 +121,13 @@ impl Value {
         }
     }
 
-    // Is the value the bit one?
-    pub fn is_one(&self) -> bool
-        ensures { result ≡ one_in (slice_index_or (held self.now) 0 unit_item) }
+    // The bit that the value is.
+    pub fn bit(&self) -> Option<bool>
+        ensures { result ≡ bit_in (slice_index_or (held self.now) 0 unit_item) }
     {
         match self.item(0) {
-            Item::Leaf(ProgramLeaf::Bit(bit)) => bit,
-            _ => false,
+            Item::Leaf(ProgramLeaf::Bit(bit)) => Some(bit),
+            _ => None,
         }
     }
 }
