@@ -21,6 +21,7 @@ pub enum Layer {
 }
 
 impl Layer {
+    // Bytes and no Display, as the line that they stand in.
     pub fn word(&self) -> &'static [u8]
         ensures { result.now ≡ layer_word self.now }
     {
@@ -68,11 +69,12 @@ pub enum Fault {
 #[derive(Clone, Copy)]
 pub struct Diagnosis {
     pub layer: Layer,
+    // A number, since this is what is printed.
     pub number: u8,
     pub place: usize,
 }
 
-// By hand: each layer's want of memory is the bench's own, a derived From has no contract, and a macro of this repository may not write an impl.
+// By hand: four map their want of memory to the bench's, a derived From has no contract, and no macro of this repository may write an impl.
 impl From<BenchFault> for Fault {
     ghost from_gives = { λ e r. r ≡ from_bench e };
 
@@ -146,6 +148,7 @@ impl Fault {
     pub fn diagnosis(&self) -> Option<Diagnosis>
         ensures { result ≡ diagnosis self.now }
     {
+        // A case with a place has no number of its own, so the numbers stand here.
         let (layer, number, place) = match *self {
             Self::Bench(fault) => (Layer::Bench, fault as u8, 0),
             Self::Word(WordFault::Bad { place }) => (Layer::Word, 3, place),

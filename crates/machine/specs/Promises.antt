@@ -6,7 +6,7 @@ use Rattle.machine.specs.declared.order.Refusal.{Refusal}
 use Rattle.machine.specs.declared.order.Refusal.TheVariants.{Full, Dead}
 
 -- P holds if the order was refused
-abbrev pub IfRefused : {A : Type 0} → Result A Refusal → Type 0 → Type 0
+abbrev pub IfRefused : {A E : Type 0} → Result A E → Type 0 → Type 0
 IfRefused (Ok a) P = Unit {0}
 IfRefused (Err e) P = P
 

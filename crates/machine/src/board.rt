@@ -6,6 +6,7 @@ use crate::order::Order;
 
 mod orders;
 
+// Fixed memory; used is kept so that no order has to count.
 #[derive(Drop)]
 pub(crate) struct Board {
     capacity: u8,

@@ -1,5 +1,5 @@
 // The coin machine: it answers bits from a number that changes with each measurement.
-// It shares the board with the script machine, and no type over a policy: that type's clauses would only restate those of the two policies.
+// It and the script machine share a board, and are no one type over a policy: the clauses of such a type would only restate those of the two.
 ghost use Rattle.std.specs.Prelude.{◌≡◌, ◌<◌, Some, None};
 ghost use Rattle.machine.specs.Boards.{seen};
 ghost use Rattle.machine.specs.Coins.{next_number, bit_of, handle_after, NextHandle, OneNextHandle};
@@ -36,6 +36,7 @@ fn handle_after(capacity: u8, last: Option<u8>) -> u8
     requires { 0 < capacity }
     ensures { result ≡ handle_after capacity last }
 {
+    // Below the capacity, which is a u8.
     last.map_or(
         0,
         |last| ((u16::from(last) + 1) % u16::from(capacity)) as u8,
@@ -62,6 +63,7 @@ impl Coin {
     }
 }
 
+// A method with clauses of its own repeats those of its trait.
 impl Machine for Coin {
     ghost model = { λ c. seen c.board };
 

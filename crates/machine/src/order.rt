@@ -41,24 +41,19 @@ pub enum Order {
     Measured { handle: u8, bit: bool },
 }
 
-// Why a machine refuses an order.
+// Why a machine refuses an order, by its number.
 #[derive(Clone, Copy)]
 pub enum Refusal {
-    Full,
-    Width,
-    Dead,
-    Same,
+    Full = 91,
+    Width = 92,
+    Dead = 93,
+    Same = 94,
 }
 
 impl Refusal {
     pub fn number(&self) -> u8
         ensures { result ≡ number self.now }
     {
-        match self {
-            Refusal::Full => 91,
-            Refusal::Width => 92,
-            Refusal::Dead => 93,
-            Refusal::Same => 94,
-        }
+        *self as u8
     }
 }

@@ -12,6 +12,7 @@ use crate::order::{Gate, Refusal};
 
 #[derive(Drop)]
 pub struct Script<'a> {
+    // The caller's bytes as they are: 0 is zero, every other byte one.
     bits: &'a [u8],
     next: usize,
     board: Board,
@@ -40,6 +41,7 @@ impl<'a> Script<'a> {
     }
 }
 
+// A method with clauses of its own repeats those of its trait.
 impl Machine for Script<'_> {
     ghost model = { λ s. seen s.board };
 

@@ -13,6 +13,6 @@ line_feed = 10 ∷ []
 abbrev pub refused_word : List ℕ
 refused_word = 114 ∷ 101 ∷ 102 ∷ 117 ∷ 115 ∷ 101 ∷ 100 ∷ 32 ∷ []
 
--- refused, the layer, the number and the place, parted by blanks, and a line feed
+-- refused, the layer, the number and the place, with blanks between, and a line feed
 abbrev pub refused_text : Diagnosis → List ℕ
 refused_text d = refused_word ++ (layer_word d.layer ++ (blank ++ (decimal d.number ++ (blank ++ (decimal d.place ++ line_feed)))))

@@ -6,7 +6,7 @@ ghost use Rattle.texts.specs.Texts.{written};
 use crate::text::Text;
 use faults::fault::Diagnosis;
 
-// The word refused, the layer, the number and the place, parted by blanks, and a line feed.
+// The word refused, the layer, the number and the place, with blanks between, and a line feed.
 // By hand: `write!` says what it wrote only where it answers Ok, and a writer that never fails cannot say so.
 pub fn refused_line(diagnosis: Diagnosis) -> Text
     ensures { written result ≡ refused_text diagnosis }

@@ -1,5 +1,5 @@
 // A text that grows at its end, up to a fixed room; what has no room is left out.
-ghost use Rattle.std.specs.Prelude.{◌≡◌, [], ◌∷◌, ◌++◌, decimal};
+ghost use Rattle.std.specs.Prelude.{◌≡◌, ◌≤◌, [], ◌∷◌, ◌++◌, length, decimal};
 ghost use Rattle.texts.specs.Texts.{written, fitted};
 
 use arrayvec::ArrayVec;
@@ -8,7 +8,7 @@ use itoa::Buffer;
 // The room of a text: more than any report needs.
 pub const ROOM: usize = 256;
 
-#[derive(Drop)]
+#[derive(Clone, Drop)]
 pub struct Text {
     bytes: ArrayVec<u8, ROOM>,
 }
@@ -24,7 +24,8 @@ impl Text {
 
     // The bytes of the text.
     pub fn bytes(&self) -> &[u8]
-        ensures { result.now ≡ written self.now }
+        ensures value { result.now ≡ written self.now }
+        ensures fits { length result.now ≤ 256 }
     {
         self.bytes.as_slice()
     }

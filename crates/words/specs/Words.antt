@@ -107,9 +107,13 @@ lex at zero (b ∷ bs) =
 abbrev pub words_of : List ℕ → Lexed
 words_of s = lex 0 0 s
 
+-- what is left to read of a listing from a place on
+abbrev pub rest : List ℕ → ℕ → List ℕ
+rest s at = drop at s
+
 -- the words of a listing from a place on, at which no word is cut
 abbrev pub words_from : List ℕ → ℕ → Lexed
-words_from s at = lex at 0 (drop at s)
+words_from s at = lex at 0 (rest s at)
 
 -- the number of the question that a bad word is refused with
 abbrev pub bad_word : ℕ

@@ -14,7 +14,7 @@ const LONGEST: usize = 16;
 // The largest number.
 const LARGEST: u32 = 65535;
 
-// Whether a number has no leading zero, but in 0 itself.
+// Whether there is some byte, and no zero at the front but in 0 itself.
 fn has_no_leading_zero(text: &[u8]) -> bool
     ensures { result ≡ no_leading_zero text.now }
 {
@@ -47,6 +47,7 @@ fn with_digit(value: u32, byte: u8) -> Option<u32>
 }
 
 // The value of a good number.
+// Not by parse: it wants a str, and takes a plus sign and leading zeros.
 fn number(text: &[u8]) -> Option<u32>
     ensures { result ≡ (if good_number text.now then Some (digits_value 10 text.now) else None) }
 {
@@ -64,6 +65,7 @@ fn is_name(text: &[u8]) -> bool
 }
 
 // The word that the bytes `text` at `place` are, if they are a good one.
+// Early returns: a chain of or_else would be six closures over the same two names.
 pub(crate) fn meaning<'a>(text: &'a [u8], place: usize) -> Option<Word<'a>>
     ensures { Means text.now place result }
 {

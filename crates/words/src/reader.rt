@@ -1,6 +1,7 @@
 // A reader over a borrowed listing.
-ghost use Rattle.std.specs.Prelude.{◌≡◌, ℕ, ◌+◌, ◌<◌, ◌≤◌, true, false, length, take, drop, slice_index};
+ghost use Rattle.std.specs.Prelude.{◌≡◌, ℕ, ◌+◌, ◌<◌, ◌≤◌, true, false, length, slice_index};
 ghost use Rattle.words.specs.Bytes.{blank, inner};
+ghost use Rattle.words.specs.Words.{rest};
 ghost use Rattle.std.specs.List.{prefix_len};
 
 mod next;
@@ -49,7 +50,7 @@ impl<'a> Reader<'a> {
     // Passes the spaces and line feeds that come next.
     fn skip_blanks(&mut self)
         ensures listing { self.new.listing.now ≡ self.old.listing.now }
-        ensures place { self.new.place ≡ self.old.place + prefix_len blank (drop self.old.place self.old.listing.now) }
+        ensures place { self.new.place ≡ self.old.place + prefix_len blank (rest self.old.listing.now self.old.place) }
     {
         self.place += front_len(&self.listing[self.place..], is_blank);
     }

@@ -38,7 +38,7 @@ pub enum Kind {
     One,
 }
 
-// Not derived: its clause states the comparison by the numbers of the kinds.
+// Not derived: an edit that must be refused turns this comparison, and a derive has no text.
 impl PartialEq for Kind {
     ghost eq = { on kind_number nat_eq };
 
@@ -105,6 +105,7 @@ impl<'a> Word<'a> {
     }
 }
 
+// Memory is a case of the layer's fault: it has no number and no place.
 #[derive(Clone, Copy)]
 pub enum WordFault {
     Bad { place: usize },

@@ -10,6 +10,7 @@ mod tests {
     use words::token::{Kind, Word, WordFault};
 
     // What a word is.
+    // A row in short: whole words would name each field in 32 rows.
     #[derive(Clone, Copy, PartialEq)]
     enum Sort {
         Name,

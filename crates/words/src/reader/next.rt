@@ -1,6 +1,6 @@
 // One word.
-ghost use Rattle.std.specs.Prelude.{◌≡◌, ◌+◌, ◌<◌, length, take, drop};
-ghost use Rattle.words.specs.Words.{span, Next};
+ghost use Rattle.std.specs.Prelude.{◌≡◌, ◌+◌, ◌<◌, length, take};
+ghost use Rattle.words.specs.Words.{span, rest, Next};
 
 use super::{Reader, front_len, is_inner};
 use crate::meaning::meaning;
@@ -11,8 +11,8 @@ impl<'a> Reader<'a> {
     fn cut(&mut self) -> &'a [u8]
         requires { self.old.place < length self.old.listing.now }
         ensures listing { self.new.listing.now ≡ self.old.listing.now }
-        ensures place { self.new.place ≡ self.old.place + span (drop self.old.place self.old.listing.now) }
-        ensures text { result.now ≡ take (span (drop self.old.place self.old.listing.now)) (drop self.old.place self.old.listing.now) }
+        ensures place { self.new.place ≡ self.old.place + span (rest self.old.listing.now self.old.place) }
+        ensures text { result.now ≡ take (span (rest self.old.listing.now self.old.place)) (rest self.old.listing.now self.old.place) }
     {
         let rest = &self.listing[self.place..];
         let count = front_len(rest, is_inner).max(1);

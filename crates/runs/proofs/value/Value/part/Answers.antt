@@ -1,7 +1,6 @@
 use Rattle.std.proofs.Common.{◌≡◌, ℕ, ◌+◌, ◌-◌, ◌<◌, ◌≤◌, min, List, [], ◌++◌, length, take, drop, sym, ap, ◌∙◌, ⊎_elim, arith, length-drop, length-take, slice_range}
-use Rattle.std.proofs.lemmas.List.{drop_all, take_rest, take_min, drop_min, drop-take}
+use Rattle.std.proofs.lemmas.List.{drop_all, take_all, take_rest, take_min, drop_min, drop-take}
 use Rattle.std.proofs.lemmas.Bool.{cases_lt}
-use Rattle.lists.proofs.Bounded.{fit_whole}
 use Rattle.runs.specs.Items.{roomy}
 use Rattle.runs.specs.declared.value.Item.{Item}
 use Rattle.runs.proofs.value.Value.part.Goals as goal
@@ -24,7 +23,7 @@ part_cut h empty p first end front back few none b f e =
     let n = length-take (end - first) (drop first h) in
     let d = length-drop first h in
     e ∙ ap (λ l. roomy (l ++ take (length (take back h) - front) (drop front (take back h)))) none ∙ ap roomy (take_rest (take back h) front ∙ cut)
-    ∙ fit_whole 15 (take (end - first) (drop first h)) (omega arith)
+    ∙ take_all 15 (take (end - first) (drop first h)) (omega arith)
 
 pub returns : goal.returns
 returns c =
