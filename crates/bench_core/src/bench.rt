@@ -2,7 +2,7 @@
 ghost use Rattle.std.specs.Prelude.{◌≡◌, not, is_some, None};
 ghost use Rattle.bench_core.specs.Buffers.{Copied, Fronted};
 ghost use Rattle.machine.specs.Model.{Clears};
-ghost use Rattle.bench_core.specs.Refusals.{IfRefused};
+ghost use Rattle.machine.specs.Promises.{IfRefused};
 
 use crate::report::report_text;
 use faults::fault::{BenchFault, Fault};

@@ -12,6 +12,7 @@ pub fn words<'a>(listing: &'a [u8], out: &mut Vec<Word<'a>>) -> Result<(), WordF
     ensures words { Appended out.old.items out.new.items (λ ws. Lexes listing.now ws result) }
     ensures memory { result ≡ Err Memory → vec_capacity out.old < vec_len out.old + length listing.now }
 {
+    // A `while let`: `next` answers a result, and `?` goes on its words.
     let mut reader = Reader::new(listing);
     while let Some(word) = reader.next()? {
         out.push(word)?;

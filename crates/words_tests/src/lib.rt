@@ -40,7 +40,7 @@ mod tests {
         words.len() == rows.len() && words.iter().zip(rows).all(|(word, row)| fits(word, row))
     }
 
-    // Whether the words of the listing are those of the table.
+    // Whether the words of the listing are those of the table; an error is want of memory alone.
     fn has_words(heap: Global, listing: &[u8], rows: &[Row]) -> Result<bool, Fail> {
         let mut out = Vec::with_capacity(heap, listing.len())?;
         Ok(words(listing, &mut out).is_ok() && are(&out, rows))
