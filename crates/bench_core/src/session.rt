@@ -9,7 +9,7 @@ use texts::text::ROOM;
 // The capacity of the program's machine.
 const CAPACITY: u8 = 64;
 
-// The line of bits as a script: 1 for the byte "1", 0 for others.
+// The line of bits as a script, which is bytes: 1 for the byte "1", 0 for others.
 fn script_bits(heap: Global, line: &[u8]) -> Result<Vec<u8>, AllocError> {
     line.iter()
         .map(|byte| u8::from(*byte == b'1'))

@@ -149,6 +149,7 @@ impl Fault {
         ensures { result ≡ diagnosis self.now }
     {
         // A case with a place has no number of its own, so the numbers stand here.
+        // 0 where no place is named.
         let (layer, number, place) = match *self {
             Self::Bench(fault) => (Layer::Bench, fault as u8, 0),
             Self::Word(WordFault::Bad { place }) => (Layer::Word, 3, place),

@@ -13,6 +13,7 @@ use words::token::{Kind, Word};
 #[derive(Clone, Copy)]
 pub enum GrammarFault {
     Stuck { place: usize },
+    // a case of the layer's fault, since it has no number and no place
     Memory,
 }
 
@@ -47,7 +48,7 @@ impl Stop {
     }
 }
 
-// The place of the word at `at`, or the length of the listing where there is none.
+// The place of the word at `at`, or the length of the listing where there is none: the place of a listing that ends too early.
 fn place_at(words: &[Word<'_>], at: usize, length: usize) -> usize
     ensures { result ≡ parsing.place_or length (drop at words.now) }
 {

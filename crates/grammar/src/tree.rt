@@ -152,6 +152,7 @@ pub struct Tree {
     pub(crate) parts: Vec<usize>,
     pub(crate) parameters: Vec<Parameter>,
     pub(crate) operations: Vec<Operation>,
+    // the place of the word run, and the node of the term to run; no struct, since each look wants one of the two
     pub(crate) run: usize,
     pub(crate) term: usize,
 }

@@ -26,7 +26,7 @@ pub trait Machine {
     fn clear(&mut self)
         ensures { Clears (model self.old) (model self.new) };
 
-    // Applies the gate to the handles, in order.
+    // Applies the gate to the handles, in order. Apart, since they become an order only where they are admitted.
     fn gate(&mut self, gate: Gate, handles: &[u8]) -> Result<(), Refusal>
         ensures answer { GateAnswer gate handles.now (model self.old) (model self.new) result }
         ensures same { IfRefused result (self.new ≡ self.old) };

@@ -20,6 +20,7 @@ pub enum NeedFault {
     Steps { place: usize },
     // 16: a peak above the machine's capacity
     Peak { place: usize },
+    // a case of the layer's fault, since it has no number and no place
     Memory,
 }
 

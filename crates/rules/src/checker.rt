@@ -13,7 +13,7 @@ mod listing;
 mod names;
 mod terms;
 
-// A name in scope: the node that is its entry, and whether it is spent.
+// A name in scope: the node that is its entry, and whether it is spent, a mark that the walk sets and takes back.
 #[derive(Clone, Copy)]
 pub struct Binding {
     name: Name,

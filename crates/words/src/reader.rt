@@ -47,7 +47,7 @@ impl<'a> Reader<'a> {
         Reader { listing, place: 0 }
     }
 
-    // Passes the spaces and line feeds that come next.
+    // Passes the spaces and line feeds that come next. As in each method, the clause `listing`: a reader is a place in one listing.
     fn skip_blanks(&mut self)
         ensures listing { self.new.listing.now ≡ self.old.listing.now }
         ensures place { self.new.place ≡ self.old.place + prefix_len blank (rest self.old.listing.now self.old.place) }

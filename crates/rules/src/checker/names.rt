@@ -91,7 +91,7 @@ impl Walk<'_> {
         Ok(())
     }
 
-    // The names of a using come into scope as qbits.
+    // The names of a using come into scope as qbits. By number, since each node is put.
     pub(super) fn bind_qbits(&mut self, names: Range) -> Result<(), RuleFault> {
         for at in names.numbers() {
             self.bind(self.name(at), at, QBIT, false)?;
