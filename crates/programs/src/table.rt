@@ -14,3 +14,21 @@ pub fn add<T: Copy>(table: &mut Vec<T>, entry: T) -> Result<usize, AllocError>
     table.push_reserved(entry);
     Ok(at)
 }
+
+#[cfg(test)]
+mod tests {
+    use super::add;
+    use std::test::Fail;
+
+    // Two entries have room, and a third has none.
+    #[test]
+    fn adds_within_the_room(rt: HostRuntime) -> Result<(), Fail> {
+        let mut table = Vec::with_capacity(rt.alloc(), 2)?;
+        let room = table.capacity();
+        assert_eq!(rt; add(&mut table, 7u8)?, 0);
+        assert_eq!(rt; add(&mut table, 8u8)?, 1);
+        assert_eq!(rt; table.as_slice(), [7, 8].as_slice());
+        assert!(rt; room > 2 || add(&mut table, 9u8).is_err());
+        Ok(())
+    }
+}
