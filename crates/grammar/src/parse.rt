@@ -144,7 +144,7 @@ impl<'b> Parser<'_, 'b, '_> {
     ghost use Rattle.grammar.specs.Reading as reading;
 
     // The current word, if there is one.
-    // From a method that takes &mut self, a look at a field that holds a borrow gets no proof.
+    // From a method that takes &mut self, a look by the cursor's own method gets no proof.
     fn word(&self) -> Option<Word<'b>>
         ensures { result ≡ parsing.first (reading.rest self.now.cursor) }
     {
@@ -587,6 +587,7 @@ impl Tree {
     ghost use Rattle.grammar.specs.Reading as reading;
 
     // Adds a node, and answers where it stands.
+    // Place and construct apart: each caller would write out the node.
     fn add_node(&mut self, place: usize, construct: Construct) -> Result<usize, Stop>
         ensures { reading.Added (node place construct) self.old self.new result }
     {

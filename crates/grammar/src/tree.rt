@@ -7,7 +7,7 @@ ghost use Rattle.grammar.specs.Parsing as parsing;
 use machine::order::Gate;
 use std::alloc::{AllocError, Global};
 
-// A name where it stands in the listing.
+// A name where it stands in the listing: by place and length, as the search asks for it.
 #[derive(Clone, Copy)]
 pub struct Name {
     pub place: usize,
@@ -81,7 +81,7 @@ pub enum Binder {
 #[derive(Clone, Copy)]
 pub enum Construct {
     // no construct: what a look gives past the end, and where a construct would not stand after the nodes that it names
-    // A case, and no Option: each caller matches on the construct at once.
+    // A case, and no Option: who asks for a construct matches on it at once.
     Missing,
     // a written type; its parts are a range of the table of parts
     BasicType(Basic),

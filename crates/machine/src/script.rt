@@ -14,6 +14,7 @@ use crate::order::{Gate, Refusal};
 pub struct Script<'a> {
     // The caller's bytes as they are: 0 is zero, every other byte one.
     bits: &'a [u8],
+    // a place, and not the rest of the bits: clauses speak of all bits
     next: usize,
     board: Board,
     ghost within: { next ≤ length bits.now },

@@ -1,4 +1,4 @@
-// The coin machine. The tests are like those of scripts: a helper for both would take a closure that makes the machine.
+// The coin machine. The tests are like those of scripts: a helper for both would be as long as what it saves.
 use super::expect::{accepted, answers, gives, refused};
 use machine::coin::Coin;
 use machine::machine::Machine;

@@ -4,6 +4,7 @@ use machine::order::Refusal;
 use std::process::Abort;
 use std::test::Fail;
 
+// By number, so that a test shows the documented numbers too.
 pub fn refused<T: Drop>(
     rt: &impl Abort,
     answer: Result<T, Refusal>,

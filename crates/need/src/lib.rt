@@ -109,12 +109,13 @@ impl Costs {
         self.table.get(at).copied().unwrap_or(FREE)
     }
 
-    // The parts in running order, from left to right.
+    // The parts in running order, from left to right. The program is a parameter: a struct of it and the costs would serve three short functions.
     fn parts(&self, program: &Program, parts: Range) -> Cost {
         let costs = parts.numbers().rev().map(|at| self.cost(program.part(at)));
         costs.fold(STEP, Cost::then)
     }
 
+    // Act and parts one by one: the case of an enum is no type of its own.
     fn built(&self, program: &Program, act: Act, parts: Range) -> Cost {
         let cost = self.parts(program, parts);
         match act {
@@ -131,9 +132,13 @@ impl Costs {
             Node::Built { act, parts } => self.built(program, act, parts),
             Node::Bind { right, body, .. } => STEP.then(self.cost(right)).then(self.cost(body)),
             Node::Using { names, body } => prepare(names.len()).then(self.cost(body)),
-            Node::If { test, yes, other } => {
+            Node::If {
+                condition,
+                yes,
+                other,
+            } => {
                 let branch = self.cost(yes).either(self.cost(other));
-                STEP.then(self.cost(test)).then(branch)
+                STEP.then(self.cost(condition)).then(branch)
             }
         }
     }

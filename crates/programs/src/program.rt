@@ -27,10 +27,11 @@ pub enum Act {
     Call(usize),
 }
 
-// The tree's constructs resolved. An enum of its own: the cases that differ are as many as those that agree.
+// The tree's constructs resolved. An enum of its own: of the six cases that both have, just three have the same fields.
 #[derive(Clone, Copy)]
 pub enum Node {
     // no term: a type, or the entry of a name that is bound by the construct after it, and whether the name may be set
+    // (a flag, and no case of its own: need and runs take both alike)
     Place(bool),
     // a name that a set alters: its entry
     Target(usize),
@@ -54,7 +55,7 @@ pub enum Node {
         body: usize,
     },
     If {
-        test: usize,
+        condition: usize,
         yes: usize,
         other: usize,
     },
@@ -126,7 +127,7 @@ impl Program {
         self.parts.len()
     }
 
-    // The node at `at`, or no term where there is none. No `Option`, as for the looks below: who looks matches on the node, and no term is a case of it.
+    // The node at `at`, or no term where there is none. No `Option`: who looks matches on the node, and no term is a case of it.
     pub fn node(&self, at: usize) -> Node
         ensures { result ≡ (get_or (nodes_of self.now) at no_node).node }
     {
@@ -136,6 +137,7 @@ impl Program {
     }
 
     // The node at `at`, or no term where a term that it names by its node does not stand before it.
+    // As the tree's node, over another enum.
     pub fn term(&self, at: usize) -> Node
         ensures falls { Falls at result }
         ensures found { Falls at (get_or (nodes_of self.now) at no_node).node → result ≡ (get_or (nodes_of self.now) at no_node).node }
@@ -144,7 +146,7 @@ impl Program {
         if falls(at, node) { node } else { NO_NODE.node }
     }
 
-    // The type of the node at `at`, or unit where there is none.
+    // The type of the node at `at`, or unit where there is none. No `Option`, as for the looks below: each caller would have an arm that never runs.
     pub fn typed(&self, at: usize) -> Typed
         ensures { result ≡ (get_or (nodes_of self.now) at no_node).typed }
     {
@@ -254,7 +256,11 @@ fn falls(at: usize, node: Node) -> bool
     match node {
         Node::Bind { right, body, .. } => right < at && body < at,
         Node::Using { body, .. } => body < at,
-        Node::If { test, yes, other } => test < at && yes < at && other < at,
+        Node::If {
+            condition,
+            yes,
+            other,
+        } => condition < at && yes < at && other < at,
         _ => true,
     }
 }

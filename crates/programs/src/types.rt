@@ -5,7 +5,7 @@ ghost use Rattle.grammar.specs.declared.tree.Basic.TheVariants.{Bit, Qbit};
 
 use grammar::tree::{Basic, PAIR_END, Range};
 
-// A tuple's parts are those entries of the table that its range of the table of parts names, in reverse order.
+// A tuple by a range, and not boxed: equality of types goes by the table. A tuple's parts are those entries of the table that its range of the table of parts names, in reverse order.
 #[derive(Clone, Copy)]
 pub enum Shape {
     Basic(Basic),

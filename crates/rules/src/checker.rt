@@ -36,7 +36,7 @@ impl Named for Binding {
     }
 }
 
-// The memory of a walk over a listing.
+// The memory of a walk over a listing, apart from the walk: it is asked for before the tree is read.
 #[derive(Drop)]
 pub struct Checker {
     program: Program,

@@ -62,7 +62,7 @@ impl State {
         let frames = Vec::with_capacity(heap, size)?;
         let values = Vec::with_capacity(heap, size)?;
         let table = vec![in heap; Value::empty(); size]?;
-        // Empty until bound: all memory of a run is asked for before it.
+        // Node 0 until the start, and empty until bound: all memory of a run is asked for before it.
         Ok(State {
             focus: Focus::Entering(0),
             frames,

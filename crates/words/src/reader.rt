@@ -6,7 +6,7 @@ ghost use Rattle.std.specs.List.{prefix_len};
 
 mod next;
 
-// The place never passes the end of the listing.
+// The place never passes the end of the listing. A place, and not the rest of the listing: clauses speak of the whole.
 #[derive(Drop)]
 pub struct Reader<'a> {
     listing: &'a [u8],

@@ -56,6 +56,7 @@ impl Eq for Kind {
     ghost laws = { on_equiv kind_number nat_eq_equiv };
 }
 
+// Text and place in each case: one match takes a word apart.
 #[derive(Clone, Copy)]
 pub enum Word<'a> {
     Name {

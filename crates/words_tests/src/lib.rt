@@ -46,7 +46,7 @@ mod tests {
         Ok(words(listing, &mut out).is_ok() && are(&out, rows))
     }
 
-    // Whether the listing is refused for a bad word at the place.
+    // Whether the listing is refused for a bad word at the place; an error is want of memory alone.
     fn is_bad_at(heap: Global, listing: &[u8], bad: usize) -> Result<bool, Fail> {
         let mut out = Vec::with_capacity(heap, listing.len())?;
         let answer = words(listing, &mut out);

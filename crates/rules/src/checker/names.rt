@@ -74,7 +74,7 @@ impl Walk<'_> {
         Ok(())
     }
 
-    // A name comes into scope.
+    // A name comes into scope; `settable` is the flag that its node gets.
     pub(super) fn bind(
         &mut self,
         name: Name,
@@ -110,6 +110,7 @@ impl Walk<'_> {
         if let Some(at) = names.single() {
             return self.bind(self.name(at), at, typed, settable);
         }
+        // After `fits`, the type is a tuple.
         let parts = typed.parts().map_or(&[][..], |parts| self.parts_of(parts));
         for (at, part) in names.numbers().zip(parts.iter().rev()) {
             let typed = self.type_at(*part);
@@ -154,7 +155,7 @@ impl Walk<'_> {
         }
     }
 
-    // The names from `start` on leave the scope: the linear ones are spent. A `for`, since a closure over `self` in `find` gets no proof.
+    // The names from `start` on leave the scope: the linear ones are spent. A `for`: from a method that takes &mut self, a closure over it in `find` got no proof.
     pub(super) fn close(&mut self, start: usize) -> Result<(), RuleFault> {
         for binding in self.scope.iter().skip(start) {
             if !binding.spent && self.type_at(binding.entry).is_linear() {
@@ -181,7 +182,7 @@ impl Walk<'_> {
         Ok(())
     }
 
-    // The names below `outside` that were spent since `start` are unspent again.
+    // The names below `outside` that were spent since `start` are unspent again. Marks one by one, as in `spent_alike`: `if_term` alone takes and gives them.
     pub(super) fn restore(&mut self, start: usize, outside: usize) {
         for at in self.trail.iter().skip(start).filter(|at| **at < outside) {
             if let Some(binding) = self.scope.get_mut(*at) {

@@ -9,7 +9,7 @@ use programs::program::{Act, Leaf, Node};
 use programs::types::{BIT, INT, PAIR, QBIT, Shape, Typed, UNIT};
 
 impl Walk<'_> {
-    // The type of a tuple of the parts in a range: at most 8 leaves.
+    // The type of a tuple of the parts in a range, at most 8 leaves; `at` is the node whose place a refusal names.
     fn tuple_of(&self, at: usize, parts: Range) -> Result<Typed, RuleFault> {
         let types = self.parts_of(parts).iter().map(|part| self.type_at(*part));
         let (leaves, qbits) = types.fold((0usize, 0usize), |(leaves, qbits), typed| {
@@ -47,6 +47,7 @@ impl Walk<'_> {
         Ok(())
     }
 
+    // The fields are passed on one by one: the case of an enum is no type of its own.
     #[cycle(terms)]
     pub(super) fn term(&mut self, at: usize) -> Result<(), RuleFault> {
         match self.tree.node(at).construct {
@@ -93,6 +94,7 @@ impl Walk<'_> {
         Ok(())
     }
 
+    // Act and type apart: the name of a call is asked before the parts, the type after them.
     #[cycle(terms)]
     fn built(&mut self, at: usize, form: Form, parts: Range) -> Result<(), RuleFault> {
         let act = self.act(form)?;
@@ -168,6 +170,7 @@ impl Walk<'_> {
                 .all(|(to, at)| types.same(*at, to))
     }
 
+    // One function for the three binders: they differ in what is asked of the names, and in the right side.
     #[cycle(terms)]
     fn bind_term(
         &mut self,
@@ -235,14 +238,20 @@ impl Walk<'_> {
     }
 
     #[cycle(terms)]
-    fn if_term(&mut self, at: usize, test: usize, yes: usize, other: usize) -> Result<(), RuleFault>
-        requires test { test < at }
+    fn if_term(
+        &mut self,
+        at: usize,
+        condition: usize,
+        yes: usize,
+        other: usize,
+    ) -> Result<(), RuleFault>
+        requires condition { condition < at }
         requires first { yes < at }
         requires other { other < at }
     {
         let place = self.place(at);
-        self.term(test)?;
-        if !self.type_at(test).is_bit() {
+        self.term(condition)?;
+        if !self.type_at(condition).is_bit() {
             return Err(RuleFault::Misfit { place });
         }
         let outside = self.scope.len();
@@ -259,7 +268,15 @@ impl Walk<'_> {
         }
         self.trail.truncate(middle);
         let typed = self.type_at(yes);
-        self.program.put(at, Node::If { test, yes, other }, typed);
+        self.program.put(
+            at,
+            Node::If {
+                condition,
+                yes,
+                other,
+            },
+            typed,
+        );
         Ok(())
     }
 }

@@ -44,7 +44,7 @@ impl State {
 }
 
 impl<M: Machine> Stepper<'_, M> {
-    // A construct whose parts are values.
+    // A construct whose parts are values. Act and parts one by one: the case of an enum is no type of its own.
     pub(super) fn act(&mut self, act: Act, parts: Range) -> Result<(), Halt> {
         let base = self.state.values.len().saturating_sub(parts.len());
         match act {

@@ -26,7 +26,7 @@ fn inner_of(program: &Program, at: usize) -> Option<Inner>
             (Some(part), program.part(part))
         }
         Node::Bind { right, .. } => (None, right),
-        Node::If { test, .. } => (None, test),
+        Node::If { condition, .. } => (None, condition),
         _ => return None,
     };
     (node < at).then_some(Inner { part, node })
