@@ -1,6 +1,7 @@
 // The bench: a machine, and a run if one is loaded.
 ghost use Rattle.std.specs.Prelude.{◌≡◌, not, is_some, None};
 ghost use Rattle.bench_core.specs.Buffers.{Copied, Fronted};
+ghost use Rattle.bench_core.specs.Looks.{need_loaded, taken_loaded, ended_loaded};
 ghost use Rattle.machine.specs.Model.{Clears};
 ghost use Rattle.machine.specs.Promises.{IfRefused};
 
@@ -155,17 +156,23 @@ impl<M: Machine + Drop> Bench<M> {
     }
 
     // The need of the listing that is loaded.
-    pub fn need(&self) -> Option<Need> {
+    pub fn need(&self) -> Option<Need>
+        ensures { result ≡ need_loaded self.now.run }
+    {
         self.run.as_ref().map(Run::need)
     }
 
     // The steps that the run has taken.
-    pub fn taken(&self) -> Option<u32> {
+    pub fn taken(&self) -> Option<u32>
+        ensures { result ≡ taken_loaded self.now.run }
+    {
         self.run.as_ref().map(Run::taken)
     }
 
     // Is a run loaded that has ended?
-    pub fn has_ended(&self) -> bool {
+    pub fn has_ended(&self) -> bool
+        ensures { result ≡ ended_loaded self.now.run }
+    {
         self.run.as_ref().is_some_and(Run::has_ended)
     }
 }

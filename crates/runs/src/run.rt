@@ -1,4 +1,7 @@
 // A run of a program, from a load to the next clear.
+ghost use Rattle.std.specs.Prelude.{◌≡◌};
+ghost use Rattle.runs.specs.Runs.{ended_value, need_told, taken_told, ended_told};
+
 use crate::state::{Halt, State};
 use crate::value::Value;
 use machine::machine::Machine;
@@ -34,25 +37,35 @@ impl Run {
         }
     }
 
-    pub fn program(&self) -> &Program {
+    pub fn program(&self) -> &Program
+        ensures { result.now ≡ self.now.program }
+    {
         &self.program
     }
 
-    pub fn need(&self) -> Need {
+    pub fn need(&self) -> Need
+        ensures { result ≡ need_told self.now }
+    {
         self.need
     }
 
     // The steps taken since the start.
-    pub fn taken(&self) -> u32 {
+    pub fn taken(&self) -> u32
+        ensures { result ≡ taken_told self.now }
+    {
         self.taken
     }
 
     // The value of the whole, once the run has ended.
-    pub fn result(&self) -> Option<Value> {
+    pub fn result(&self) -> Option<Value>
+        ensures { result ≡ ended_value self.now.state }
+    {
         self.state.result()
     }
 
-    pub fn has_ended(&self) -> bool {
+    pub fn has_ended(&self) -> bool
+        ensures { result ≡ ended_told self.now }
+    {
         self.state.result().is_some()
     }
 

@@ -1,5 +1,6 @@
 // The state of a run: what is entered or finished, what waits for it, finished parts, and the table of bindings.
 ghost use Rattle.std.specs.Prelude.{◌≡◌};
+ghost use Rattle.runs.specs.Runs.{ended_value};
 ghost use Rattle.runs.specs.declared.state.Halt.TheVariants.{Refused};
 
 use crate::value::Value;
@@ -79,7 +80,9 @@ impl State {
     }
 
     // The value of the whole, once it is finished.
-    pub fn result(&self) -> Option<Value> {
+    pub fn result(&self) -> Option<Value>
+        ensures { result ≡ ended_value self.now }
+    {
         match self.focus {
             Focus::Finished(value) if self.frames.is_empty() => Some(value),
             _ => None,
