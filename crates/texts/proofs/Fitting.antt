@@ -1,7 +1,6 @@
--- Decimals and the refused line, as far as there is room.
-use Rattle.std.proofs.Common.{◌≡◌, ℕ, ◌+◌, ◌^◌, ◌<◌, ◌≤◌, List, [], ◌∷◌, ◌++◌, length, take, min, sym, ap, append_assoc, ◌∙◌, arith}
-use Rattle.std.proofs.lemmas.List.{length-append, take_all, take-append-le, take_min}
-use Rattle.std.proofs.Math.Seq.{take-append-add}
+-- The refused line, as far as there is room.
+use Rattle.std.proofs.Common.{◌≡◌, ℕ, ◌^◌, ◌<◌, ◌≤◌, List, [], ◌++◌, length, append_assoc, arith}
+use Rattle.std.proofs.lemmas.List.{length-append, take_all}
 use Rattle.lists.proofs.Bounded.{fit_fit}
 use Rattle.std.proofs.lemmas.Fmt.{length-decimal-le}
 use Rattle.faults.specs.declared.fault.Diagnosis.{Diagnosis}
@@ -25,20 +24,6 @@ refused_short d n p =
     let b = length-decimal-le 20 d.number (omega arith) (omega arith) (omega arith) in
     let c = length-decimal-le 20 d.place (omega arith) (omega arith) p in
     simp length-append (omega arith)
-
--- a byte that has room
-pub fits_one : (held : List ℕ) (x : ℕ) → length held < 256 → held ++ (x ∷ []) ≡ fitted (held ++ (x ∷ []))
-fits_one held x lt = sym (take_all 256 (held ++ (x ∷ [])) (simp length-append (omega arith)))
-
--- a byte that has none
-pub fits_none : (held : List ℕ) (x : ℕ) → length held ≡ 256 → held ≡ fitted (held ++ (x ∷ []))
-fits_none held x full = sym (take-append-le 256 held (x ∷ []) (omega arith) ∙ take_all 256 held (omega arith))
-
--- as much of a piece as has room
-pub fits_piece : (held piece : List ℕ) (n left : ℕ) → n ≡ min left (length piece) → left + length held ≡ 256 → held ++ take n piece ≡ fitted (held ++ piece)
-fits_piece held piece n left m e =
-    let room : length held + left ≡ 256 = omega arith in
-    ap (λ k. held ++ take k piece) m ∙ ap (λ l. held ++ l) (take_min left piece) ∙ sym (take-append-add held piece left) ∙ ap (λ n. take n (held ++ piece)) room
 
 -- seven pieces, one after the other
 pub seven : (t₀ t₁ t₂ t₃ t₄ t₅ t₆ t₇ a b c d e f g : List ℕ) → t₀ ≡ [] →

@@ -4,7 +4,7 @@ use Rattle.texts.specs.declared.text.Text.{Text}
 
 -- the bytes of the text
 abbrev pub written : Text → List ℕ
-written t = t.bytes.items
+written t = take t.count t.bytes
 
 -- what of it has room
 abbrev pub fitted : List ℕ → List ℕ
