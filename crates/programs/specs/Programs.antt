@@ -1,5 +1,5 @@
 -- The tables of a program, and how they grow.
-use Rattle.std.specs.Prelude.{◌≡◌, ℕ, ◌≤◌, false, List, [], ◌∷◌, ◌++◌, length, get_or, set, Ok, Err, vec_items, vec_capacity, Vec, Result}
+use Rattle.std.specs.Prelude.{◌≡◌, ℕ, ◌+◌, ◌≤◌, false, List, [], ◌∷◌, ◌++◌, length, get_or, set, Ok, Err, vec_items, vec_capacity, Vec, Result}
 use Rattle.std.specs.declared.alloc.AllocError.{AllocError}
 use Rattle.std.specs.declared.alloc.Global.{Global}
 use Rattle.programs.specs.declared.program.Node.TheVariants.{Place}
@@ -48,6 +48,23 @@ pub record Grown (ns : List Placed) (ps : List ℕ) (rs : List Root) (p q : Prog
   pub parts : parts_of q ≡ parts_of p ++ ps
   pub roots : roots_of q ≡ roots_of p ++ rs
   pub room : SameRoom p q
+
+-- the entries of the tables, and the term to run
+pub record SameEntries (p q : Program) : Type 0 where
+  pub nodes : nodes_of q ≡ nodes_of p
+  pub parts : q.parts ≡ p.parts
+  pub roots : roots_of q ≡ roots_of p
+  pub run : q.run ≡ p.run
+  pub run_place : q.run_place ≡ p.run_place
+
+-- room for so many more nodes and operations
+abbrev pub HasRoom : ℕ → ℕ → Program → Type 0
+HasRoom n r p = (length (nodes_of p) + n ≤ vec_capacity p.nodes) × (length (roots_of p) + r ≤ vec_capacity p.roots)
+
+-- now there is room for so many more; or there was not, and memory is wanting; the entries stay
+abbrev pub Reserved : ℕ → ℕ → Program → Program → Result (Unit {0}) AllocError → Type 0
+Reserved n r p q (Ok _) = SameEntries p q × HasRoom n r q
+Reserved n r p q (Err _) = SameEntries p q × (HasRoom n r p → ⊥)
 
 -- an entry was added to a table and has that number; or there was no room, and nothing changed
 abbrev pub EntryAdded : {T : Type 0} → T → Vec T Global → Vec T Global → Result ℕ AllocError → Type 0

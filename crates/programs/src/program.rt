@@ -1,6 +1,6 @@
 // A checked listing as a run executes it: an arena of nodes, the parts of a construct before it, names resolved to entries.
 ghost use Rattle.std.specs.Prelude.{◌≡◌, true, length, get_or, IfOk, slice_index, slice_index_or};
-ghost use Rattle.programs.specs.Programs.{nodes_of, parts_of, roots_of, no_node, no_root, Fresh, NodeAdded, NodePut, PartAdded, PartsSet, RootAdded, NamedRun};
+ghost use Rattle.programs.specs.Programs.{nodes_of, parts_of, roots_of, no_node, no_root, Fresh, Reserved, NodeAdded, NodePut, PartAdded, PartsSet, RootAdded, NamedRun};
 ghost use Rattle.programs.specs.Nodes.{Falls};
 
 use crate::table::add;
@@ -141,6 +141,7 @@ impl Program {
     pub fn term(&self, at: usize) -> Node
         ensures falls { Falls at result }
         ensures found { Falls at (get_or (nodes_of self.now) at no_node).node → result ≡ (get_or (nodes_of self.now) at no_node).node }
+        ensures none { (Falls at (get_or (nodes_of self.now) at no_node).node → ⊥) → result ≡ no_node.node }
     {
         let node = self.node(at);
         if falls(at, node) { node } else { NO_NODE.node }
@@ -197,6 +198,15 @@ impl Program {
         ensures { result ≡ self.now.run_place }
     {
         self.run_place
+    }
+
+    // Asks for room for so many more nodes and operations, where there is not as much.
+    pub fn reserve(&mut self, nodes: usize, roots: usize) -> Result<(), AllocError>
+        ensures { Reserved nodes roots self.old self.new result }
+    {
+        self.nodes.reserve(nodes)?;
+        self.roots.reserve(roots)?;
+        Ok(())
     }
 
     // Adds a node, and answers its number.
@@ -262,5 +272,22 @@ fn falls(at: usize, node: Node) -> bool
             other,
         } => condition < at && yes < at && other < at,
         _ => true,
+    }
+}
+
+#[cfg(test)]
+mod tests {
+    use super::{NO_NODE, NO_ROOT, Program};
+    use std::test::Fail;
+
+    // A program made without room takes a node and an operation once room was asked for.
+    #[test]
+    fn reserves_room(rt: HostRuntime) -> Result<(), Fail> {
+        let mut program = Program::room(rt.alloc(), 0)?;
+        program.reserve(1, 1)?;
+        assert_eq!(rt; program.add_node(NO_NODE)?, 0);
+        program.add_root(NO_ROOT)?;
+        assert_eq!(rt; program.size(), 1);
+        Ok(())
     }
 }

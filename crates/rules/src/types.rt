@@ -51,3 +51,8 @@ impl Types<'_> {
         self.equal(a, b, self.program.typed(a).leaves)
     }
 }
+
+// Are the types of two nodes of a program equal?
+pub fn same(program: &Program, parts: &[usize], a: usize, b: usize) -> bool {
+    Types { program, parts }.same(a, b)
+}

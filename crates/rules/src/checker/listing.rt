@@ -8,7 +8,9 @@ use programs::types::UNIT;
 
 impl<'a> Walk<'a> {
     // A node of the program for each node of the tree, at once: the walk does not come to them in their order.
+    // Where the room that was made before is too small, more is asked for.
     fn fill(&mut self) -> Result<(), RuleFault> {
+        self.program.reserve(self.tree.nodes().len(), 0)?;
         for node in self.tree.nodes() {
             self.program.add_node(Placed {
                 place: node.place,
@@ -67,6 +69,7 @@ impl<'a> Walk<'a> {
         if !self.types().same(body, result) {
             return Err(RuleFault::Misfit { place });
         }
+        self.program.reserve(0, 1)?;
         self.program.add_root(Root { body, names })?;
         Ok(())
     }

@@ -7,6 +7,11 @@ use grammar::tree::{self, Binder, Name, Range};
 use programs::program::Node;
 use programs::types::{QBIT, Typed};
 
+// The entries of a table from `start` on, or none past its end. A cut of the slice, since the library's `skip` passes the entries before `start` one by one.
+fn after<T>(table: &[T], start: usize) -> &[T] {
+    table.get(start..).unwrap_or(&[])
+}
+
 impl Walk<'_> {
     // The name of a node of a pattern.
     fn name(&self, at: usize) -> Name {
@@ -157,7 +162,7 @@ impl Walk<'_> {
 
     // The names from `start` on leave the scope: the linear ones are spent. A `for`: from a method that takes &mut self, a closure over it in `find` got no proof.
     pub(super) fn close(&mut self, start: usize) -> Result<(), RuleFault> {
-        for binding in self.scope.iter().skip(start) {
+        for binding in after(self.scope.as_slice(), start) {
             if !binding.spent && self.type_at(binding.entry).is_linear() {
                 return Err(RuleFault::Unspent {
                     place: binding.name.place,
@@ -184,7 +189,8 @@ impl Walk<'_> {
 
     // The names below `outside` that were spent since `start` are unspent again. Marks one by one, as in `spent_alike`: `if_term` alone takes and gives them.
     pub(super) fn restore(&mut self, start: usize, outside: usize) {
-        for at in self.trail.iter().skip(start).filter(|at| **at < outside) {
+        let new = after(self.trail.as_slice(), start);
+        for at in new.iter().filter(|at| **at < outside) {
             if let Some(binding) = self.scope.get_mut(*at) {
                 binding.spent = false;
             }
@@ -195,9 +201,14 @@ impl Walk<'_> {
     pub(super) fn spent_alike(&self, start: usize, middle: usize, outside: usize) -> bool {
         let outer = |at: &&usize| **at < outside;
         let spent = |at: &usize| self.scope.get(*at).is_some_and(|binding| binding.spent);
-        let first = self.trail.iter().take(middle).skip(start).filter(outer);
-        let second = self.trail.iter().skip(middle).filter(outer);
-        let mut both = self.trail.iter().skip(start).filter(outer);
+        let trail = self.trail.as_slice();
+        let first = Range {
+            first: start,
+            end: middle,
+        };
+        let first = within(trail, first).iter().filter(outer);
+        let second = after(trail, middle).iter().filter(outer);
+        let mut both = after(trail, start).iter().filter(outer);
         both.all(spent) && first.count() == second.count()
     }
 }
