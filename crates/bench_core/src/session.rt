@@ -19,8 +19,9 @@ fn script_bits(heap: Global, line: &[u8]) -> Result<Vec<u8>, AllocError> {
 // Loads the listing, runs it to its end, and answers the report.
 fn run_listing(heap: Global, bits: &[u8], listing: &[u8]) -> Result<Vec<u8>, Fault> {
     let mut bench = Bench::open(Script::new(bits, CAPACITY));
-    let need = bench.load(heap, listing)?;
-    bench.advance(need.steps)?;
+    bench.load(heap, listing)?;
+    // To the end, whatever the need: that it suffices is not proved of the code.
+    bench.advance(u32::MAX)?;
     // A buffer, since report writes to one.
     let mut page = [0u8; ROOM];
     let length = bench.report(&mut page)?;
