@@ -4,6 +4,7 @@ use Rattle.syntax.specs.Trees as s
 use Rattle.grammar.specs.declared.tree.Tree.{Tree}
 use Rattle.grammar.specs.declared.tree.Parameter as parameters
 use Rattle.grammar.specs.declared.tree.Operation as operations
+use Rattle.grammar.specs.Trees.{Falls}
 use Rattle.grammar.specs.Arena.{Node, At, NamesAt, no_names_at, names_at, TypeAt, basic_at, tuple_type_at, TypesAt, no_types_at, types_at, Stands, constant_at, use_at, call_at, meas_at, gate_at, tuple_at, bind_at, using_at, if_at, PartsAt, no_parts_at, parts_at, ParametersAt, no_parameters_at, parameters_at, OperationAt, OperationsAt, no_operations_at, operations_at}
 use Rattle.grammar.specs.Parsing.{Kept, Grows, nodes_of, parts_of}
 
@@ -105,3 +106,19 @@ parts_wider c l (parts_at h o p r) = parts_at h (omega (arith, l, o)) p (parts_w
 pub types_wider : {ns : List Node} {ps : List ℕ} {b f e : ℕ} {τs : s.Writtens} (c : ℕ) → b ≤ c → TypesAt ns ps b f e τs → TypesAt ns ps c f e τs
 types_wider c l no_types_at = no_types_at
 types_wider c l (types_at h o p r) = types_at h (omega (arith, l, o)) p (types_wider c l r)
+
+-- the node of a term or a type, and that the nodes that it names stand before it
+pub entry : {ns : List Node} {ps : List ℕ} {i : ℕ} {t : s.Tree} → Stands ns ps i t → (n : Node) × At ns i n × Falls i n.construct
+entry (constant_at h) = (_, h, tt)
+entry (use_at h p) = (_, h, tt)
+entry (call_at h p r) = (_, h, tt)
+entry (meas_at h r) = (_, h, tt)
+entry (gate_at h r) = (_, h, tt)
+entry (tuple_at h r) = (_, h, tt)
+entry (bind_at h n o p q r) = (_, h, (o, q))
+entry (using_at h n o r) = (_, h, o)
+entry (if_at h a p b q d r) = (_, h, (a, b, d))
+
+pub type_entry : {ns : List Node} {ps : List ℕ} {i : ℕ} {τ : s.Written} → TypeAt ns ps i τ → (n : Node) × At ns i n × Falls i n.construct
+type_entry (basic_at h) = (_, h, tt)
+type_entry (tuple_type_at h r) = (_, h, tt)

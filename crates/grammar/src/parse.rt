@@ -226,17 +226,17 @@ impl<'b> Parser<'_, 'b, '_> {
     fn term(&mut self) -> Result<usize, Stop>
         ensures { reading.Parses reading.TermRead self.old self.new result }
     {
-        let Some(kind) = self.kind() else {
-            return self.plain_term();
-        };
-        match kind {
-            Kind::Let => self.bind_term(Binder::Let),
-            Kind::Mut => self.bind_term(Binder::Mut),
-            Kind::Set => self.bind_term(Binder::Set),
-            Kind::Using => self.using_term(),
-            Kind::If => self.if_term(),
-            _ => self.plain_term(),
+        if let Some(kind) = self.kind() {
+            match kind {
+                Kind::Let => return self.bind_term(Binder::Let),
+                Kind::Mut => return self.bind_term(Binder::Mut),
+                Kind::Set => return self.bind_term(Binder::Set),
+                Kind::Using => return self.using_term(),
+                Kind::If => return self.if_term(),
+                _ => {}
+            }
         }
+        self.plain_term()
     }
 
     // (let | mut | set) pattern = term in term

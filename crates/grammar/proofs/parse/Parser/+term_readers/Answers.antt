@@ -4,7 +4,7 @@ use Rattle.words.specs.declared.token.Word.TheVariants as word
 use Rattle.syntax.specs.Trees as s
 use Rattle.syntax.specs.Grammar as g
 use Rattle.syntax.specs.Machine as m
-use Rattle.syntax.specs.Machine.{this}
+use Rattle.syntax.specs.Machine.{this, Way}
 use Rattle.syntax.proofs.Ways as w
 use Rattle.grammar.specs.Arena as at
 use Rattle.grammar.specs.Reading as reading
@@ -14,6 +14,7 @@ use Rattle.grammar.proofs.Productions as productions
 use Rattle.grammar.proofs.Exits as x
 use Rattle.grammar.proofs.Exits.{sized, is_word, finish, gains}
 use Rattle.grammar.proofs.parse.Parser.+term_readers.Goals as goal
+use Rattle.grammar.proofs.parse.Parser.+term_readers.Goals.{term-in-Some+in_default-kind, term-in_default}
 
 pub bind_term-returns-in_err-names : goal.bind_term-returns-in_err-names
 bind_term-returns-in_err-names t c =
@@ -289,16 +290,14 @@ plain_term-constant-requires-in-One t c =
     let d = l.1 in
     record { begins = (l.0, w.word p.words.now m.plain p.at _ [] l.0 d refl, productions.one_there d) }
 
-pub term-returns-in_default : goal.term-returns-in_default
-term-returns-in_default t c =
+pub term-returns : goal.term-returns
+term-returns t c =
     let p = c.args.self.now.cursor in
-    (x.plain_by p c.plain_term.new.self.cursor c.args.self.now.tree.now c.plain_term.new.self.tree.now c.plain_term.result (x.plain_unheaded p (sym c.in_default.is ∙ c.kind.ensures)) c.plain_term.ensures.0, c.plain_term.ensures.1)
-
-pub term-returns-in_default-kind : goal.term-returns-in_default-kind
-term-returns-in_default-kind t c =
-    let p = c.args.self.now.cursor in (
-      let n = c.in_default-kind in
-          let r = c.plain_term-in_default-kind in
-          x.plain_by p r.new.self.cursor c.args.self.now.tree.now r.new.self.tree.now r.result (x.plain_headed p c.in-Some.kind (sym c.in-Some.is ∙ c.kind.ensures) n.not-Let n.not-Mut n.not-Set n.not-Using n.not-If) r.ensures.0,
-      c.plain_term-in_default-kind.ensures.1,
-    )
+    let way : Way m.term p.words.now p.at (m.plain ∷ []) p.at =
+    elim c.match-kind.branch [
+      | term-in-Some+in_default-kind w ↦
+          let n = w.in_default-kind in
+          x.plain_headed p w.in-Some.kind (sym w.in-Some.is ∙ c.kind.ensures) n.not-Let n.not-Mut n.not-Set n.not-Using n.not-If
+      | term-in_default w ↦ x.plain_unheaded p (sym w.in_default.is ∙ c.kind.ensures)
+    ] in
+    (x.plain_by p c.plain_term.new.self.cursor c.args.self.now.tree.now c.plain_term.new.self.tree.now c.plain_term.result way c.plain_term.ensures.0, c.plain_term.ensures.1)
