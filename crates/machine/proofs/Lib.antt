@@ -1,3 +1,6 @@
+pub mod Accepts
+pub mod Acts
 mod Kept
+pub mod Questions
 mod Rounds
-mod Tally
+pub mod Tally

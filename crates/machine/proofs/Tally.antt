@@ -54,6 +54,16 @@ set_with l h b small k =
       | false ↦ λ t. get_or-set_other l h k b false (eqb-false k h t)
     ] refl
 
+pub free_under : (f : ℕ → Bool) (n : ℕ) → tally f n < n → ((k : ℕ) → k < n → f k ≡ true) → ⊥
+free_under f n l all = let e = tally_all f n all in omega arith
+
+pub tally_le : (f : ℕ → Bool) (n : ℕ) → tally f n ≤ n
+unfolding tally
+tally_le f zero = omega arith
+tally_le f (suc n) =
+    let rest = tally_le f n in
+    elim (f n) as (λ b. cond b 1 0 + tally f n ≤ suc n) [ true ↦ omega arith | false ↦ omega arith ]
+
 pub tally_less : (f g : ℕ → Bool) (n h : ℕ) → h < n → f h ≡ true → ((k : ℕ) → g k ≡ with f h false k) → tally g n + 1 ≡ tally f n
 tally_less f g n h l e same =
     sym (tally_more g f n h l (same h ∙ with_here f h false) (λ k.

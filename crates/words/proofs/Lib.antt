@@ -1,3 +1,4 @@
+pub mod Given
 pub mod Lexing
 pub mod Lookups
 pub mod Numerals
