@@ -61,10 +61,15 @@ pub record SameEntries (p q : Program) : Type 0 where
 abbrev pub HasRoom : ℕ → ℕ → Program → Type 0
 HasRoom n r p = (length (nodes_of p) + n ≤ vec_capacity p.nodes) × (length (roots_of p) + r ≤ vec_capacity p.roots)
 
--- now there is room for so many more; or there was not, and memory is wanting; the entries stay
+-- no table of q has less room than that of p
+pub record NoLessRoom (p q : Program) : Type 0 where
+  pub nodes : vec_capacity p.nodes ≤ vec_capacity q.nodes
+  pub roots : vec_capacity p.roots ≤ vec_capacity q.roots
+
+-- now there is room for so many more; or there was not, and memory is wanting; the entries stay, and no room is lost
 abbrev pub Reserved : ℕ → ℕ → Program → Program → Result (Unit {0}) AllocError → Type 0
-Reserved n r p q (Ok _) = SameEntries p q × HasRoom n r q
-Reserved n r p q (Err _) = SameEntries p q × (HasRoom n r p → ⊥)
+Reserved n r p q (Ok _) = SameEntries p q × NoLessRoom p q × HasRoom n r q
+Reserved n r p q (Err _) = SameEntries p q × NoLessRoom p q × (HasRoom n r p → ⊥)
 
 -- an entry was added to a table and has that number; or there was no room, and nothing changed
 abbrev pub EntryAdded : {T : Type 0} → T → Vec T Global → Vec T Global → Result ℕ AllocError → Type 0

@@ -1,4 +1,6 @@
 // The questions about names: new, in scope, unspent, and spent at the end.
+ghost use Rattle.std.specs.Prelude.{◌≡◌, drop};
+
 use super::{Binding, Walk};
 use crate::fault::RuleFault;
 use crate::search::{Named, name_of};
@@ -8,7 +10,9 @@ use programs::program::Node;
 use programs::types::{QBIT, Typed};
 
 // The entries of a table from `start` on, or none past its end. A cut of the slice, since the library's `skip` passes the entries before `start` one by one.
-fn after<T>(table: &[T], start: usize) -> &[T] {
+fn after<T>(table: &[T], start: usize) -> &[T]
+    ensures { result.now ≡ drop start table.now }
+{
     table.get(start..).unwrap_or(&[])
 }
 
@@ -201,14 +205,10 @@ impl Walk<'_> {
     pub(super) fn spent_alike(&self, start: usize, middle: usize, outside: usize) -> bool {
         let outer = |at: &&usize| **at < outside;
         let spent = |at: &usize| self.scope.get(*at).is_some_and(|binding| binding.spent);
-        let trail = self.trail.as_slice();
-        let first = Range {
-            first: start,
-            end: middle,
-        };
-        let first = within(trail, first).iter().filter(outer);
-        let second = after(trail, middle).iter().filter(outer);
-        let mut both = after(trail, start).iter().filter(outer);
-        both.all(spent) && first.count() == second.count()
+        let both = after(self.trail.as_slice(), start);
+        let first = both.iter().take(middle.saturating_sub(start)).filter(outer);
+        let second = after(self.trail.as_slice(), middle).iter().filter(outer);
+        let mut spends = both.iter().filter(outer);
+        spends.all(spent) && first.count() == second.count()
     }
 }
